@@ -1,0 +1,63 @@
+//! RDF terms. A term is its canonical text: contracts see a `Term` as the bytes of that text, and
+//! two terms are the same exactly where their texts are. A triple is three terms.
+//! So far the one kind of term is the IRI, of characters of ASCII.
+#![tactic(auto)]
+
+mod iri;
+mod term;
+mod term_ref;
+mod triple;
+
+pub use iri::{GREATER_THAN, LESS_THAN, is_iri, is_iri_char};
+pub use term::Term;
+pub use term_ref::TermRef;
+pub use triple::Triple;
+
+#[cfg(test)]
+mod tests {
+    use super::*;
+    use std::test::Fail;
+
+    #[test]
+    fn iris_and_what_is_none(rt: HostRuntime) {
+        for text in ["<>", "<urn:a>", "<!~>", "<a'b#c/d?e=f%20>"] {
+            assert!(rt; is_iri(text.as_bytes()), "{text}");
+        }
+        for text in [
+            "",
+            "<",
+            ">",
+            "urn:a",
+            "<urn:a",
+            "urn:a>",
+            "<a b>",
+            "<a<b>",
+            "<a>b>",
+            "<a\"b>",
+            "<a{b>",
+            "<a}b>",
+            "<a|b>",
+            "<a^b>",
+            "<a`b>",
+            "<a\\b>",
+            "<a\u{7f}\u{80}>",
+            "<\u{1f}>",
+            "<é>",
+            " <a>",
+        ] {
+            assert!(rt; !is_iri(text.as_bytes()), "{text}");
+        }
+    }
+
+    #[test]
+    fn terms_are_copied_and_compared(rt: HostRuntime) -> Result<(), Fail> {
+        let a = TermRef::new(b"<urn:a>").ok_or("a")?;
+        let b = TermRef::new(b"<urn:b>").ok_or("b")?;
+        let owned = Term::copy_of(rt.alloc(), a)?;
+        assert!(rt; TermRef::new(b"urn:a").is_none());
+        assert_eq!(rt; owned.as_ref().bytes(), b"<urn:a>".as_slice());
+        assert!(rt; owned < Term::copy_of(rt.alloc(), b)?);
+        assert!(rt; owned == owned.clone()?);
+        Ok(())
+    }
+}
