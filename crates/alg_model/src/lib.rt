@@ -1,0 +1,16 @@
+//! The SPARQL algebra. Patterns and queries are data here, and their meaning stands in `specs/`:
+//! rows, matches, basic graph patterns and evaluation, for any kind of value. `eval_plain` is the plain
+//! evaluator, whose rows are those of the algebra.
+#![tactic(auto)]
+
+mod eval;
+mod pattern;
+mod query;
+mod row;
+mod var;
+
+//pub use eval::eval_plain;
+pub use pattern::{PatList, Pattern, Place, TriplePat};
+pub use query::{Columns, Names, Query};
+//pub use row::RowList;
+pub use var::Var;

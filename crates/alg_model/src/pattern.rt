@@ -1,0 +1,90 @@
+ghost use Rattle.std.specs.Prelude.{◌≡◌, ◌<◌, ◌==◌, [], ◌∷◌, ◌++◌, length, slice_get, OnOk, OnErr, Some};
+
+use crate::Var;
+use bm_term::Term;
+use std::alloc::{AllocError, Global};
+use std::marker::Model;
+
+/// A place of a triple pattern: a variable, or a term that has to stand there.
+#[derive(Debug, Drop)]
+pub enum Place {
+    Var(Var),
+    Term(Term),
+}
+
+/// A triple pattern (SPARQL 1.1 Query, section 18.1.5). `number` counts the patterns of a query from 1, in
+/// the order of its text.
+#[derive(Debug, Drop)]
+pub struct TriplePat {
+    pub subject: Place,
+    pub predicate: Place,
+    pub object: Place,
+    pub number: u16,
+}
+
+/// A graph pattern (SPARQL 1.1 Query, section 18.2).
+#[derive(Debug, Drop)]
+pub enum Pattern {
+    Bgp(PatList),
+}
+
+/// A list of triple patterns.
+#[derive(Debug, Drop)]
+pub struct PatList {
+    patterns: Vec<TriplePat>,
+}
+
+impl Model for PatList {
+    ghost use Rattle.std.specs.Prelude.{List};
+    ghost use Rattle.alg_model.specs.declared.pattern.TriplePat.{TriplePat};
+
+    ghost Value = { List TriplePat };
+
+    ghost view = { λ l. l.patterns.items };
+}
+
+impl PatList {
+    /// The empty list.
+    pub fn new(alloc: Global) -> PatList
+        ensures { result ≡ [] }
+    {
+        PatList {
+            patterns: Vec::new(alloc),
+        }
+    }
+
+    pub fn len(&self) -> usize
+        ensures { result ≡ length self.now }
+    {
+        self.patterns.len()
+    }
+
+    pub fn is_empty(&self) -> bool
+        ensures { result ≡ (length self.now == 0) }
+    {
+        self.patterns.is_empty()
+    }
+
+    /// The i-th pattern from 0.
+    pub fn get(&self, i: usize) -> &TriplePat
+        requires { i < length self.now }
+        ensures { slice_get self.now i ≡ Some result.now }
+    {
+        &self.patterns[i]
+    }
+
+    pub fn as_slice(&self) -> &[TriplePat]
+        ensures { result.now ≡ self.now }
+    {
+        &self.patterns
+    }
+
+    /// Puts a pattern at the end, or changes nothing.
+    pub fn push(&mut self, pattern: TriplePat) -> Result<(), AllocError>
+        ensures ok { OnOk result (self.new ≡ self.old ++ pattern ∷ []) }
+        ensures err { OnErr result (self.new ≡ self.old) }
+    {
+        self.patterns.push(pattern)?;
+        Ok(())
+    }
+}

@@ -1,0 +1,126 @@
+ghost use Rattle.std.specs.Prelude.{◌≡◌, ◌<◌, ◌==◌, [], ◌∷◌, ◌++◌, length, slice_get, OnOk, OnErr, Some};
+
+use crate::{Pattern, Var};
+use std::alloc::{AllocError, Global};
+use std::marker::Model;
+
+/// A query. `names` are the names of its variables without the mark, in order of number; `columns` are the
+/// variables that are answered.
+#[derive(Debug, Drop)]
+pub struct Query {
+    pub names: Names,
+    pub pattern: Pattern,
+    pub columns: Columns,
+    pub distinct: bool,
+}
+
+/// A list of names, each of them bytes.
+#[derive(Debug, Drop)]
+pub struct Names {
+    alloc: Global,
+    names: Vec<Vec<u8>>,
+}
+
+impl Model for Names {
+    ghost use Rattle.std.specs.Prelude.{List, ℕ, map};
+
+    ghost Value = { List (List ℕ) };
+
+    ghost view = { λ l. map (λ name. name.items) l.names.items };
+}
+
+impl Names {
+    /// The empty list.
+    pub fn new(alloc: Global) -> Names
+        ensures { result ≡ [] }
+    {
+        Names {
+            alloc,
+            names: Vec::new(alloc),
+        }
+    }
+
+    pub fn len(&self) -> usize
+        ensures { result ≡ length self.now }
+    {
+        self.names.len()
+    }
+
+    pub fn is_empty(&self) -> bool
+        ensures { result ≡ (length self.now == 0) }
+    {
+        self.names.is_empty()
+    }
+
+    /// The i-th name from 0.
+    pub fn get(&self, i: usize) -> &[u8]
+        requires { i < length self.now }
+        ensures { slice_get self.now i ≡ Some result.now }
+    {
+        &self.names[i]
+    }
+
+    /// Puts a copy of a name at the end, or changes nothing.
+    pub fn push(&mut self, name: &[u8]) -> Result<(), AllocError>
+        ensures ok { OnOk result (self.new ≡ self.old ++ name.now ∷ []) }
+        ensures err { OnErr result (self.new ≡ self.old) }
+    {
+        self.names.push(name.to_vec(self.alloc)?)?;
+        Ok(())
+    }
+}
+
+/// A list of variables.
+#[derive(Debug, Drop)]
+pub struct Columns {
+    vars: Vec<Var>,
+}
+
+impl Model for Columns {
+    ghost use Rattle.std.specs.Prelude.{List};
+    ghost use Rattle.alg_model.specs.declared.var.Var.{Var};
+
+    ghost Value = { List Var };
+
+    ghost view = { λ l. l.vars.items };
+}
+
+impl Columns {
+    /// The empty list.
+    pub fn new(alloc: Global) -> Columns
+        ensures { result ≡ [] }
+    {
+        Columns {
+            vars: Vec::new(alloc),
+        }
+    }
+
+    pub fn len(&self) -> usize
+        ensures { result ≡ length self.now }
+    {
+        self.vars.len()
+    }
+
+    pub fn is_empty(&self) -> bool
+        ensures { result ≡ (length self.now == 0) }
+    {
+        self.vars.is_empty()
+    }
+
+    /// The i-th variable from 0.
+    pub fn get(&self, i: usize) -> Var
+        requires { i < length self.now }
+        ensures { slice_get self.now i ≡ Some result }
+    {
+        self.vars[i]
+    }
+
+    /// Puts a variable at the end, or changes nothing.
+    pub fn push(&mut self, var: Var) -> Result<(), AllocError>
+        ensures ok { OnOk result (self.new ≡ self.old ++ var ∷ []) }
+        ensures err { OnErr result (self.new ≡ self.old) }
+    {
+        self.vars.push(var)?;
+        Ok(())
+    }
+}

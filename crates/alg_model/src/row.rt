@@ -1,0 +1,89 @@
+ghost use Rattle.std.specs.Prelude.{◌≡◌, ◌<◌, ◌==◌, [], ◌∷◌, ◌++◌, ℕ, List, replicate, map, length, slice_get, slice_index_or, slice_set, IfOk, OnOk, OnErr, Some, None};
+ghost use Rattle.std.specs.Option.{option_map};
+ghost use Rattle.std.specs.Cmp.Lexicographic.{pointwise};
+ghost use Rattle.bm_term.specs.TermRef.{text_of};
+ghost use Rattle.alg_model.specs.Row.{unbound, single, cells_agree, are_compatible, merge, merge_cells};
+
+use crate::Var;
+use bm_term::{Term, TermRef};
+use std::alloc::{AllocError, Global};
+use std::marker::Model;
+
+/// A row (a solution mapping): one cell for each variable, in order of number. It is seen as the list of
+/// its cells.
+#[derive(Debug, Drop)]
+pub(crate) struct Row {
+    cells: Vec<Option<Term>>,
+}
+
+impl Model for Row {
+    ghost use Rattle.std.specs.Prelude.{List, ℕ, Option};
+
+    ghost Value = { List (Option (List ℕ)) };
+
+    ghost view = { λ r. r.cells.items };
+}
+
+impl Row {
+    // The row that binds nothing.
+    pub(crate) fn unbound(alloc: Global, vars: u8) -> Result<Row, AllocError>
+        ensures { IfOk result (λ row. row ≡ unbound (List ℕ) vars) }
+    {
+        let mut cells = Vec::new(alloc);
+        for _ in 0..vars {
+            cells.push(None)?;
+        }
+        Ok(Row { cells })
+    }
+
+    // The row that binds one variable.
+    pub(crate) fn single(alloc: Global, vars: u8, var: Var, term: &Term) -> Result<Row, AllocError>
+        ensures { IfOk result (λ row. row ≡ single vars var.0 term.now) }
+    {
+        let mut row = Row::unbound(alloc, vars)?;
+        let value = Some(term.clone()?);
+        if (var.0 as usize) < row.cells.len() {
+            row.cells[var.0 as usize] = value;
+        }
+        Ok(row)
+    }
+
+    // Whether the rows agree on each variable that both bind.
+    pub(crate) fn is_compatible(&self, other: &Row) -> bool
+        ensures { result ≡ are_compatible (pointwise ◌==◌) self.now other.now }
+    {
+        self.cells
+            .iter()
+            .zip(other.cells.iter())
+            .all(|(cell, other)| agree(cell, other))
+    }
+
+    // What either row binds.
+    pub(crate) fn merge(&self, alloc: Global, other: &Row) -> Result<Row, AllocError>
+        ensures { IfOk result (λ row. row ≡ merge self.now other.now) }
+    {
+        let mut cells = Vec::new(alloc);
+        for (cell, other) in self.cells.iter().zip(other.cells.iter()) {
+            cells.push(first_bound(cell, other)?)?;
+        }
+        Ok(Row { cells })
+    }
+}
+
+fn agree(cell: &Option<Term>, other: &Option<Term>) -> bool
+    ensures { result ≡ cells_agree (pointwise ◌==◌) cell.now other.now }
+{
+    match (cell, other) {
+        (Some(term), Some(other)) => term == other,
+        _ => true,
+    }
+}
+
+fn first_bound(cell: &Option<Term>, other: &Option<Term>) -> Result<Option<Term>, AllocError>
+    ensures { IfOk result (λ bound. bound ≡ merge_cells cell.now other.now) }
+{
+    match cell {
+        Some(term) => Ok(Some(term.clone()?)),
+        None => Ok(other.clone()?),
+    }
+}
