@@ -6,7 +6,7 @@ use Rattle.bm_term.specs.declared.triple.Triple.{Triple}
 use Rattle.alg_model.specs.declared.pattern.Place.{Place}
 use Rattle.alg_model.specs.declared.pattern.Place.TheVariants as places
 use Rattle.alg_model.specs.declared.pattern.TriplePat.{TriplePat}
-use Rattle.alg_model.specs.Row.{Row, unbound, single, merged, join, left_join}
+use Rattle.alg_model.specs.Row.{Row, unbound, single, both_rows, join, left_join}
 use Rattle.alg_model.specs.Pattern.{Algebra, Basic, Joined, Optional}
 
 -- How triples of the type X are read as values of the type V: the three places of a triple, when two
@@ -34,17 +34,13 @@ module _ {V X : Type 0} (reading : Reading V X) (n : ℕ) where
   place_row (places.Term text) value = if reading.stands_for value text then Some (unbound V n) else None
   place_row (places.Var var) value = Some (single n var.0 value)
 
-  -- two rows as one, where both are there and compatible
-  abbrev pub both_rows : Option (Row V) → Option (Row V) → Option (Row V)
-  both_rows (Some r) (Some s) = merged reading.same r s
-  both_rows (Some r) None = None
-  both_rows None s = None
-
   -- the row under which a triple pattern becomes a triple, and which binds just the pattern's variables
   abbrev pub match_of : TriplePat → X → Option (Row V)
   match_of pattern triple =
-      both_rows (both_rows (place_row pattern.subject (reading.subject triple)) (place_row pattern.predicate (reading.predicate triple)))
-      (place_row pattern.object (reading.object triple))
+      let subject = place_row pattern.subject (reading.subject triple) in
+      let predicate = place_row pattern.predicate (reading.predicate triple) in
+      let object = place_row pattern.object (reading.object triple) in
+      both_rows reading.same (both_rows reading.same subject predicate) object
 
   -- the matches of a triple pattern
   abbrev pub matches_of : TriplePat → List X → List (Row V)

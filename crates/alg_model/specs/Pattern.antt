@@ -1,6 +1,6 @@
 -- Graph patterns as data without boxes. SPARQL 1.1 Query, sections 18.1.5, 18.1.6 and 18.2.
-use Rattle.std.specs.Prelude.{◌≡◌, ◌<◌, ◌≤◌, ℕ, ◌+◌, List, [], ◌∷◌, ◌++◌, All, length}
-use Rattle.alg_model.specs.declared.var.Var.{Var}
+use Rattle.std.specs.Prelude.{◌<◌, ℕ, List, [], ◌∷◌, ◌++◌, All}
+use Rattle.std.specs.List.{flat_map}
 use Rattle.alg_model.specs.declared.pattern.Place.{Place}
 use Rattle.alg_model.specs.declared.pattern.Place.TheVariants as places
 use Rattle.alg_model.specs.declared.pattern.TriplePat.{TriplePat}
@@ -15,3 +15,20 @@ pub data Algebra : Type 0 where
 -- what a pattern of the code is
 abbrev pub algebra_of : Pattern → Algebra
 algebra_of (patterns.Bgp list) = Basic list
+
+-- the variables of a place, of a triple pattern, and of a pattern, by number, as often as they occur
+abbrev pub place_vars : Place → List ℕ
+place_vars (places.Var var) = var.0 ∷ []
+place_vars (places.Term text) = []
+
+abbrev pub triple_vars : TriplePat → List ℕ
+triple_vars pattern = place_vars pattern.subject ++ place_vars pattern.predicate ++ place_vars pattern.object
+
+abbrev pub vars_of : Algebra → List ℕ
+vars_of (Basic list) = flat_map triple_vars list
+vars_of (Joined left right) = vars_of left ++ vars_of right
+vars_of (Optional left right) = vars_of left ++ vars_of right
+
+-- each variable of the pattern has a number below n
+abbrev pub HasVarsBelow : ℕ → Algebra → Type 0
+HasVarsBelow n pattern = All (λ var. var < n) (vars_of pattern)

@@ -38,6 +38,12 @@ merge r s = map (λ cells. merge_cells cells.0 cells.1) (zip r s)
 abbrev pub merged : {V : Type 0} → (V → V → Bool) → Row V → Row V → Option (Row V)
 merged same r s = if are_compatible same r s then Some (merge r s) else None
 
+-- two rows as one, where both are there and compatible
+abbrev pub both_rows : {V : Type 0} → (V → V → Bool) → Option (Row V) → Option (Row V) → Option (Row V)
+both_rows same (Some r) (Some s) = merged same r s
+both_rows same (Some r) None = None
+both_rows same None s = None
+
 -- Join: the merges of compatible rows, one of each side
 abbrev pub join : {V : Type 0} → (V → V → Bool) → List (Row V) → List (Row V) → List (Row V)
 join same left right = flat_map (λ r. filter_map (merged same r) right) left

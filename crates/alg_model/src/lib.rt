@@ -9,8 +9,8 @@ mod query;
 mod row;
 mod var;
 
-//pub use eval::eval_plain;
+pub use eval::eval_plain;
 pub use pattern::{PatList, Pattern, Place, TriplePat};
 pub use query::{Columns, Names, Query};
-//pub use row::RowList;
+pub use row::RowList;
 pub use var::Var;

@@ -2,7 +2,7 @@ ghost use Rattle.std.specs.Prelude.{◌≡◌, ◌<◌, ◌==◌, [], ◌∷◌,
 ghost use Rattle.std.specs.Option.{option_map};
 ghost use Rattle.std.specs.Cmp.Lexicographic.{pointwise};
 ghost use Rattle.bm_term.specs.TermRef.{text_of};
-ghost use Rattle.alg_model.specs.Row.{unbound, single, cells_agree, are_compatible, merge, merge_cells};
+ghost use Rattle.alg_model.specs.Row.{unbound, single, cells_agree, are_compatible, merge, merge_cells, merged};
 
 use crate::Var;
 use bm_term::{Term, TermRef};
@@ -49,7 +49,7 @@ impl Row {
     }
 
     // Whether the rows agree on each variable that both bind.
-    pub(crate) fn is_compatible(&self, other: &Row) -> bool
+    fn is_compatible(&self, other: &Row) -> bool
         ensures { result ≡ are_compatible (pointwise ◌==◌) self.now other.now }
     {
         self.cells
@@ -58,8 +58,30 @@ impl Row {
             .all(|(cell, other)| agree(cell, other))
     }
 
+    // What the row binds a variable to.
+    fn get(&self, var: Var) -> Option<TermRef<'_>>
+        requires { var.0 < length self.now }
+        ensures { option_map text_of result ≡ slice_index_or self.now var.0 None }
+    {
+        match &self.cells[var.0 as usize] {
+            Some(term) => Some(term.as_ref()),
+            None => None,
+        }
+    }
+
+    // The merge, where the rows are compatible.
+    pub(crate) fn merged(&self, alloc: Global, other: &Row) -> Result<Option<Row>, AllocError>
+        ensures { IfOk result (λ row. row ≡ merged (pointwise ◌==◌) self.now other.now) }
+    {
+        if self.is_compatible(other) {
+            Ok(Some(self.merge(alloc, other)?))
+        } else {
+            Ok(None)
+        }
+    }
+
     // What either row binds.
-    pub(crate) fn merge(&self, alloc: Global, other: &Row) -> Result<Row, AllocError>
+    fn merge(&self, alloc: Global, other: &Row) -> Result<Row, AllocError>
         ensures { IfOk result (λ row. row ≡ merge self.now other.now) }
     {
         let mut cells = Vec::new(alloc);
@@ -67,6 +89,50 @@ impl Row {
             cells.push(first_bound(cell, other)?)?;
         }
         Ok(Row { cells })
+    }
+}
+
+/// A list of rows. It is seen as the list of the rows' cells.
+#[derive(Debug, Drop)]
+pub struct RowList {
+    rows: Vec<Row>,
+}
+
+impl Model for RowList {
+    ghost use Rattle.std.specs.Prelude.{List, ℕ, Option};
+
+    ghost Value = { List (List (Option (List ℕ))) };
+
+    ghost view = { λ l. l.rows.items };
+}
+
+impl RowList {
+    pub(crate) fn from_rows(rows: Vec<Row>) -> RowList
+        ensures { result ≡ rows.items }
+    {
+        RowList { rows }
+    }
+
+    pub fn len(&self) -> usize
+        ensures { result ≡ length self.now }
+    {
+        self.rows.len()
+    }
+
+    pub fn is_empty(&self) -> bool
+        ensures { result ≡ (length self.now == 0) }
+    {
+        self.rows.is_empty()
+    }
+
+    /// What a row binds a variable to. `None` exactly where the cell is unbound.
+    pub fn cell(&self, row: usize, var: Var) -> Option<TermRef<'_>>
+        requires row_exists { row < length self.now }
+        requires var_exists { var.0 < length (slice_index_or self.now row []) }
+        ensures { option_map text_of result ≡ slice_index_or (slice_index_or self.now row []) var.0 None }
+    {
+        let row = &self.rows[row];
+        row.get(var)
     }
 }
 
