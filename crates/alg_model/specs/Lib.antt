@@ -1,3 +1,4 @@
-pub mod Row
-pub mod Pattern
+pub mod Answers
 pub mod Eval
+pub mod Pattern
+pub mod Row

@@ -1,0 +1,45 @@
+-- The answers of a query: the rows of its pattern, cut to its columns, in order. SPARQL 1.1 Query, section 18.2.5.
+-- The order of the rows is this project's: column by column, unbound before bound, terms by the bytes of their text.
+use Rattle.std.specs.Prelude.{ℕ, Bool, if◌then◌else◌, List, [], ◌∷◌, map, length, Option, None, slice_index_or}
+use Rattle.std.specs.declared.cmp.Ordering.{Ordering}
+use Rattle.std.specs.List.{list_any}
+use Rattle.std.specs.Option.{option_cmp}
+use Rattle.std.specs.Ordering.{nat_cmp, is_gt, is_eq}
+use Rattle.std.specs.Cmp.Lexicographic.{slice_cmp}
+use Rattle.bm_term.specs.declared.triple.Triple.{Triple}
+use Rattle.alg_model.specs.declared.var.Var.{Var}
+use Rattle.alg_model.specs.declared.query.Query.{Query}
+use Rattle.alg_model.specs.Row.{Row}
+use Rattle.alg_model.specs.Pattern.{algebra_of}
+use Rattle.alg_model.specs.Eval.{as_terms, eval}
+
+-- a row of texts compared with another
+abbrev pub row_cmp : Row (List ℕ) → Row (List ℕ) → Ordering
+row_cmp = slice_cmp (option_cmp (slice_cmp nat_cmp))
+
+-- the cells of some columns
+abbrev pub project : {V : Type 0} → List Var → Row V → Row V
+project columns row = map (λ column. slice_index_or row column.0 None) columns
+
+module _ {X : Type 0} (cmp : X → X → Ordering) where
+  -- equal items are kept once
+  abbrev pub each_once : List X → List X
+  each_once [] = []
+  each_once (x ∷ xs) = if list_any (λ y. is_eq (cmp x y)) xs then each_once xs else x ∷ each_once xs
+
+  -- an item behind those that it is greater than
+  abbrev pub put_in_order : X → List X → List X
+  put_in_order x [] = x ∷ []
+  put_in_order x (y ∷ ys) = if is_gt (cmp x y) then y ∷ put_in_order x ys else x ∷ y ∷ ys
+
+  -- the items in ascending order
+  abbrev pub in_order : List X → List X
+  in_order [] = []
+  in_order (x ∷ xs) = put_in_order x (in_order xs)
+
+-- the answers over triples: projection, DISTINCT, order
+abbrev pub answers_of : Query → List Triple → List (Row (List ℕ))
+answers_of query triples =
+    let rows = eval as_terms (length query.names) (algebra_of query.pattern) triples in
+    let projected = map (project query.columns) rows in
+    in_order row_cmp (if query.distinct then each_once row_cmp projected else projected)
