@@ -1,0 +1,3 @@
+pub mod Pieces
+pub mod PlainData
+pub mod Reading

@@ -1,0 +1,5 @@
+//! The top of the program: what a command does, from the bytes that come in to the bytes that go out.
+#![tactic(auto)]
+
+mod pieces;
+mod plain_data;
