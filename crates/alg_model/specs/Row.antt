@@ -1,7 +1,7 @@
 -- Rows, which SPARQL calls solution mappings: compatible rows, and their merge. SPARQL 1.1 Query, section 18.3.
 -- A row is a list with one cell for each variable, in order of number: the variable's value, or nothing.
 -- When two values are the same is told by a test, so that a value may be a text or a number.
-use Rattle.std.specs.Prelude.{ℕ, Bool, true, not, if◌then◌else◌, List, [], ◌∷◌, ◌++◌, map, filter, replicate, Option, Some, None, slice_set}
+use Rattle.std.specs.Prelude.{ℕ, Bool, true, not, if◌then◌else◌, List, ◌++◌, map, filter, replicate, Option, Some, None, slice_set}
 use Rattle.std.specs.List.{list_all, list_any, zip, flat_map, filter_map}
 
 abbrev pub Row : Type 0 → Type 0

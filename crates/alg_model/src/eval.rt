@@ -1,4 +1,4 @@
-ghost use Rattle.std.specs.Prelude.{◌≡◌, ◌≢◌, ◌==◌, ◌++◌, All, AllPairs, IsPermutation, IfOk, OnOk};
+ghost use Rattle.std.specs.Prelude.{◌≡◌, ◌≢◌, ◌==◌, ◌++◌, length, All, AllPairs, IsPermutation, IfOk, OnOk};
 ghost use Rattle.std.specs.Option.{option_to_list};
 ghost use Rattle.std.specs.Cmp.Lexicographic.{pointwise};
 ghost use Rattle.std.specs.List.{filter_map};
@@ -22,6 +22,7 @@ pub fn eval_plain(
     requires vars_below { HasVarsBelow vars (algebra_of pattern.now) }
     requires each_once { AllPairs (λ t u. t ≢ u) triples.now }
     ensures rows { IfOk result (λ rows. IsPermutation (eval as_terms vars (algebra_of pattern.now) triples.now) rows) }
+    ensures width { IfOk result (λ rows. All (λ row. length row ≡ vars) rows) }
 {
     let rows = pattern_rows(alloc, pattern, vars, triples)?;
     Ok(RowList::from_rows(rows))

@@ -1,4 +1,4 @@
-use Rattle.std.proofs.Common.{◌≡◌, ◌==◌, append_assoc}
+use Rattle.std.proofs.Common.{◌==◌, append_assoc}
 use Rattle.std.specs.Cmp.Lexicographic.{pointwise}
 use Rattle.alg_model.specs.Row.{merged}
 use Rattle.alg_model.proofs.Lists.{filter_map-more}

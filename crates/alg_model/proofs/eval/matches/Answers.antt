@@ -1,4 +1,3 @@
-use Rattle.std.proofs.Common.{◌≡◌}
 use Rattle.alg_model.specs.Eval.{as_terms, match_of}
 use Rattle.alg_model.proofs.Lists.{filter_map-more}
 use Rattle.alg_model.proofs.eval.matches.Goals as goal

@@ -1,0 +1,94 @@
+-- Each row of a pattern has one cell for each variable.
+use Rattle.std.proofs.Common.{◌≡◌, ℕ, Bool, true, false, List, [], ◌∷◌, fold, All, length, Option, Some, None, IfSome, if◌then◌else◌, not, zip, ◌∙◌, arith}
+use Rattle.std.proofs.lemmas.List.{length-map, length-replicate, length-set}
+use Rattle.std.proofs.lemmas.List.Elements.{All-nil, All-cons, All-head, All-tail, All-append, All-filter}
+use Rattle.std.proofs.lemmas.Slice.Zip.{length-zip}
+use Rattle.std.specs.List.{filter_map, flat_map, list_any, cons_option}
+use Rattle.alg_model.specs.declared.pattern.Place.{Place}
+use Rattle.alg_model.specs.declared.pattern.Place.TheVariants as places
+use Rattle.alg_model.specs.declared.pattern.TriplePat.{TriplePat}
+use Rattle.alg_model.specs.Row.{Row, unbound, single, are_compatible, merge, merge_cells, merged, both_rows, join, without_partner, left_join}
+use Rattle.alg_model.specs.Pattern.{Algebra, Basic, Joined, Optional}
+use Rattle.alg_model.specs.Eval.{Reading, place_row, match_of, matches_of, eval}
+
+-- what f gives has Q, where f gives only such of what has P
+pub All-filter_map : {X Y : Type 0} (f : X → Option Y) (P : X → Type 0) (Q : Y → Type 0) → ((x : X) → P x → IfSome (f x) Q) → (xs : List X) → All P xs → All Q (filter_map f xs)
+All-filter_map f P Q gives [] all = All-nil Q
+All-filter_map f P Q gives (x ∷ xs) all =
+    let rest = All-filter_map f P Q gives xs (All-tail P x xs all) in
+    elim (f x) as (λ o. IfSome o Q → All Q (cons_option o (filter_map f xs))) [
+      | None ↦ λ _. rest
+      | Some y ↦ λ h. All-cons Q y (filter_map f xs) h rest
+    ] (gives x (All-head P x xs all))
+
+pub All-flat_map : {X Y : Type 0} (f : X → List Y) (P : X → Type 0) (Q : Y → Type 0) → ((x : X) → P x → All Q (f x)) → (xs : List X) → All P xs → All Q (flat_map f xs)
+All-flat_map f P Q gives [] all = All-nil Q
+All-flat_map f P Q gives (x ∷ xs) all =
+    All-append Q (f x) (flat_map f xs) (gives x (All-head P x xs all)) (All-flat_map f P Q gives xs (All-tail P x xs all))
+
+-- the row has n cells
+abbrev pub HasWidth : {V : Type 0} → ℕ → Row V → Type 0
+HasWidth n row = length row ≡ n
+
+pub width-unbound : (V : Type 0) (n : ℕ) → HasWidth n (unbound V n)
+width-unbound V n = length-replicate n None
+
+module _ {V : Type 0} (n : ℕ) where
+  pub width-single : (var : ℕ) (value : V) → HasWidth n (single n var value)
+  width-single var value = length-set (unbound V n) var (Some value) ∙ width-unbound V n
+
+  pub width-merge : (r s : Row V) → HasWidth n r → HasWidth n s → HasWidth n (merge r s)
+  width-merge r s hr hs =
+      let mapped = length-map (zip r s) (λ cells. merge_cells cells.0 cells.1) in
+      let zipped = length-zip r s in
+      omega arith
+
+  pub width-merged : (same : V → V → Bool) (r s : Row V) → HasWidth n r → HasWidth n s → IfSome (merged same r s) (HasWidth n)
+  width-merged same r s hr hs =
+      elim (are_compatible same r s) as (λ b. IfSome (if b then Some (merge r s) else None) (HasWidth n)) [
+        | true ↦ width-merge r s hr hs
+        | false ↦ tt
+      ]
+
+  pub width-both_rows : (same : V → V → Bool) (r s : Option (Row V)) → IfSome r (HasWidth n) → IfSome s (HasWidth n) → IfSome (both_rows same r s) (HasWidth n)
+  width-both_rows same None s hr hs = tt
+  width-both_rows same (Some r) None hr hs = tt
+  width-both_rows same (Some r) (Some s) hr hs = width-merged same r s hr hs
+
+  pub width-join : (same : V → V → Bool) (left right : List (Row V)) → All (HasWidth n) left → All (HasWidth n) right → All (HasWidth n) (join same left right)
+  width-join same left right hl hr =
+      All-flat_map (λ r. filter_map (merged same r) right) (HasWidth n) (HasWidth n) (λ r hr'. All-filter_map (merged same r) (HasWidth n) (HasWidth n) (λ s hs. width-merged same r s hr' hs) right hr) left hl
+
+  pub width-left_join : (same : V → V → Bool) (left right : List (Row V)) → All (HasWidth n) left → All (HasWidth n) right → All (HasWidth n) (left_join same left right)
+  width-left_join same left right hl hr =
+      All-append (HasWidth n) (join same left right) (without_partner same left right) (width-join same left right hl hr)
+      (All-filter (λ r. not (list_any (are_compatible same r) right)) (HasWidth n) left hl)
+
+module _ {V X : Type 0} (reading : Reading V X) (n : ℕ) where
+  width-place_row : (place : Place) (value : V) → IfSome (place_row reading n place value) (HasWidth n)
+  width-place_row (places.Term text) value =
+      elim (reading.stands_for value text) as (λ b. IfSome (if b then Some (unbound V n) else None) (HasWidth n)) [
+        | true ↦ width-unbound V n
+        | false ↦ tt
+      ]
+  width-place_row (places.Var var) value = width-single n var.0 value
+
+  pub width-matches_of : (pattern : TriplePat) (triples : List X) → All (HasWidth n) (matches_of reading n pattern triples)
+  width-matches_of pattern triples =
+      let same = reading.same in
+      let row : Place → V → Option (Row V) = place_row reading n in
+      All-filter_map (match_of reading n pattern) (λ _. Unit {0}) (HasWidth n)
+      (λ triple _. width-both_rows n same (both_rows same (row pattern.subject (reading.subject triple)) (row pattern.predicate (reading.predicate triple))) (row pattern.object (reading.object triple))
+      (width-both_rows n same (row pattern.subject (reading.subject triple)) (row pattern.predicate (reading.predicate triple)) (width-place_row pattern.subject (reading.subject triple)) (width-place_row pattern.predicate (reading.predicate triple)))
+      (width-place_row pattern.object (reading.object triple)))
+      triples (λ _ _ _. tt)
+
+  width-fold : (patterns : List TriplePat) (triples : List X) (rows : List (Row V)) → All (HasWidth n) rows → All (HasWidth n) (fold (λ rows pattern. join reading.same rows (matches_of reading n pattern triples)) rows patterns)
+  width-fold [] triples rows h = h
+  width-fold (pattern ∷ patterns) triples rows h =
+      width-fold patterns triples (join reading.same rows (matches_of reading n pattern triples)) (width-join n reading.same rows (matches_of reading n pattern triples) h (width-matches_of pattern triples))
+
+  pub width-eval : (pattern : Algebra) (triples : List X) → All (HasWidth n) (eval reading n pattern triples)
+  width-eval (Basic patterns) triples = width-fold patterns triples (unbound V n ∷ []) (All-cons (HasWidth n) (unbound V n) [] (width-unbound V n) (All-nil (HasWidth n)))
+  width-eval (Joined left right) triples = width-join n reading.same (eval reading n left triples) (eval reading n right triples) (width-eval left triples) (width-eval right triples)
+  width-eval (Optional left right) triples = width-left_join n reading.same (eval reading n left triples) (eval reading n right triples) (width-eval left triples) (width-eval right triples)
