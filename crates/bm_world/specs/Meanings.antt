@@ -1,0 +1,39 @@
+-- What a world holds: its files, what is left to read, the file that is being made, and what was said.
+use Rattle.std.specs.Prelude.{ℕ, List, ◌++◌, Option}
+use Rattle.std.specs.Option.{option_map_or}
+use Rattle.std.specs.Ordering.{nat_cmp}
+use Rattle.std.specs.Cmp.Lexicographic.{slice_cmp}
+use Rattle.std.specs.FinMap.{FinMap, get, insert}
+
+-- from the bytes of a name to the bytes of the file
+abbrev pub Files : Type 0
+Files = FinMap (slice_cmp nat_cmp) (List ℕ)
+
+pub record Meanings : Type 0 where
+  pub files : Files
+  -- what is left to read of the opened file, if one is open
+  pub rest : Option (List ℕ)
+  -- the name of the file that is being made, if one is
+  pub made : Option (List ℕ)
+  pub printed : List ℕ
+  pub complained : List ℕ
+
+-- the bytes of the named file, if it is there
+abbrev pub file_at : Meanings → List ℕ → Option (List ℕ)
+file_at m name = get m.files name
+
+-- these bytes at the end of the named file, where it is there
+abbrev pub append_to : Files → List ℕ → List ℕ → Files
+append_to files name bytes = option_map_or (λ (old : List ℕ). insert files name (old ++ bytes)) (get files name) files
+
+-- these bytes at the end of the file that is being made
+abbrev pub with_written : Meanings → List ℕ → Meanings
+with_written m bytes = record m { files = option_map_or (λ (name : List ℕ). append_to m.files name bytes) m.made m.files }
+
+-- these bytes printed after the others
+abbrev pub with_printed : Meanings → List ℕ → Meanings
+with_printed m bytes = record m { printed = m.printed ++ bytes }
+
+-- these bytes complained after the others
+abbrev pub with_complained : Meanings → List ℕ → Meanings
+with_complained m bytes = record m { complained = m.complained ++ bytes }

@@ -1,0 +1,12 @@
+//! The outside of the program as a trait: files that are read and made, what is printed, and what is
+//! complained. A contract over any `World` says which bytes came from a file and which went out, where
+//! the world tells its content, and what shows that a call failed, where it doesn't.
+#![tactic(auto)]
+
+mod reading;
+mod saying;
+mod world;
+
+pub use reading::{ReadEnd, read_all};
+pub use saying::{complain_all, print_all};
+pub use world::{Failed, World};

@@ -1,0 +1,68 @@
+// Reads a whole file, up to a limit.
+ghost use Rattle.std.specs.Prelude.{◌≡◌, ◌⊎◌, ◌≤◌, IfOk, IsErrOf, IsSomeAnd, vec_len};
+ghost use Rattle.bm_world.specs.declared.reading.ReadEnd.TheVariants.{Fault, Memory};
+ghost use Rattle.bm_world.specs.World.{Step, Rose, IsMissing};
+ghost use Rattle.bm_world.specs.Reading.{ReadsAll};
+
+use crate::{Failed, World};
+use std::alloc::{AllocError, Global};
+
+/// Why a file was not read to its end.
+#[derive(Clone, Copy, Debug, PartialEq, Eq)]
+pub enum ReadEnd {
+    /// A call of the world failed.
+    Fault,
+    /// The file has more bytes than the limit.
+    TooLong,
+    /// Out of memory.
+    Memory,
+}
+
+impl From<Failed> for ReadEnd {
+    ghost from_gives = { λ _ e. e ≡ Fault };
+
+    fn from(_: Failed) -> Self {
+        ReadEnd::Fault
+    }
+}
+
+impl From<AllocError> for ReadEnd {
+    ghost from_gives = { λ _ e. e ≡ Memory };
+
+    fn from(_: AllocError) -> Self {
+        ReadEnd::Memory
+    }
+}
+
+const BUFFER: usize = 65_536;
+
+/// Opens the named file and reads it to its end, if it has at most `limit` bytes. No more is read
+/// once more than `limit` bytes have come.
+pub fn read_all<W: World>(
+    alloc: Global,
+    world: &mut W,
+    name: &str,
+    limit: u64,
+) -> Result<Vec<u8>, ReadEnd>
+    ensures step { Step (W.told world.old) (W.told world.new) (ReadsAll name.now limit result) }
+    ensures within { IfOk result (λ bytes. vec_len bytes ≤ limit) }
+    ensures fault { IsErrOf result ReadEnd.Fault → Rose (W.read_faults world.old) (W.read_faults world.new) ⊎ IsSomeAnd (W.told world.old) (IsMissing name.now) }
+    ensures later { W.read_faults world.old ≤ W.read_faults world.new }
+    ensures write_faults_stay { W.write_faults world.new ≡ W.write_faults world.old }
+    ensures say_faults_stay { W.say_faults world.new ≡ W.say_faults world.old }
+{
+    let mut room = vec![in alloc; 0u8; BUFFER]?;
+    let buffer = room.as_mut_slice();
+    let mut bytes = Vec::new(alloc);
+    world.open(name)?;
+    loop {
+        let count = world.read(buffer)?;
+        if count == 0 {
+            return Ok(bytes);
+        }
+        bytes.extend_from_slice(&buffer[..count])?;
+        if bytes.len() as u64 > limit {
+            return Err(ReadEnd::TooLong);
+        }
+    }
+}
