@@ -43,7 +43,7 @@ triples_in (spelled triple) = triple ∷ []
 
 -- the lines of a file
 abbrev pub lines_of : List ℕ → List (List ℕ)
-lines_of bytes = parts_at LINE_FEED data
+lines_of bytes = parts_at LINE_FEED bytes
 
 -- the number of the first bad line, where the first of these has the number n
 abbrev pub first_bad_from : ℕ → List (List ℕ) → Option ℕ

@@ -100,7 +100,7 @@ fn split_triple(line: &[u8]) -> Option<(&[u8], &[u8], &[u8])>
     let (predicate, rest) = split_at_byte(rest?, SPACE);
     let (object, rest) = split_at_byte(rest?, SPACE);
     let end = rest?;
-    if end == [DOT] {
+    if end == [DOT].as_slice() {
         Some((subject, predicate, object))
     } else {
         None
@@ -110,6 +110,8 @@ fn split_triple(line: &[u8]) -> Option<(&[u8], &[u8], &[u8])>
 fn read_iri(alloc: Global, text: &[u8]) -> Result<Term, LineFault>
     ensures { IsIriOf text.now result }
 {
-    let term = TermRef::new(text).ok_or(LineFault::Bad)?;
-    Ok(Term::copy_of(alloc, term)?)
+    match TermRef::new(text) {
+        Some(term) => Ok(Term::copy_of(alloc, term)?),
+        None => Err(LineFault::Bad),
+    }
 }

@@ -1,0 +1,90 @@
+-- The parts of a text, and the first place of the mark.
+use Rattle.std.proofs.Common.{◌≡◌, ℕ, ◌+◌, ◌-◌, ◌<◌, Bool, true, false, not, cond, ◌==◌, nat_lt, ◌≤◌, if◌then◌else◌, List, [], ◌∷◌, length, take, drop, Option, Some, None, refl, add_comm, add-one, arith, rules, sym, ◌∙◌, ap}
+use Rattle.std.proofs.lemmas.Grind.{common_steps}
+use Rattle.std.proofs.lemmas.Bool.{ltb-true, ltb-false}
+use Rattle.std.specs.List.{prefix_len, position}
+use Rattle.bm_top.specs.Pieces.{parts_at, before_first_part}
+
+-- how many bytes stand before the first mark
+abbrev place_of : ℕ → List ℕ → ℕ
+place_of mark xs = prefix_len (λ b. not (b == mark)) xs
+
+take-next : (n x : ℕ) (xs : List ℕ) → take (1 + n) (x ∷ xs) ≡ x ∷ take n xs
+take-next n x xs = rw (add_comm 1 n, add-one) refl
+
+drop-next : (n x : ℕ) (xs : List ℕ) → drop (1 + n + 1) (x ∷ xs) ≡ drop (n + 1) xs
+drop-next n x xs = simp (add_comm 1 n, add-one)
+
+-- where there is a mark
+parts_at-mark : (mark : ℕ) (xs : List ℕ) → place_of mark xs < length xs → parts_at mark xs ≡ take (place_of mark xs) xs ∷ parts_at mark (drop (place_of mark xs + 1) xs)
+parts_at-mark mark [] h = absurd (omega arith)
+parts_at-mark mark (x ∷ xs) h =
+    elim (x == mark) as (λ b. cond (not b) (1 + place_of mark xs) 0 < length (x ∷ xs) →
+        (if b then [] ∷ parts_at mark xs else before_first_part x (parts_at mark xs)) ≡
+            take (cond (not b) (1 + place_of mark xs) 0) (x ∷ xs) ∷ parts_at mark (drop (cond (not b) (1 + place_of mark xs) 0 + 1) (x ∷ xs))) [
+      | true ↦ λ _. refl
+      | false ↦ λ h. let ih = parts_at-mark mark xs (omega arith) in rw (take-next, drop-next) (ap (before_first_part x) ih)
+    ] h
+
+-- where there is none
+parts_at-none : (mark : ℕ) (xs : List ℕ) → length xs ≤ place_of mark xs → parts_at mark xs ≡ xs ∷ []
+parts_at-none mark [] h = refl
+parts_at-none mark (x ∷ xs) h =
+    elim (x == mark) as (λ b. length (x ∷ xs) ≤ cond (not b) (1 + place_of mark xs) 0 →
+        (if b then [] ∷ parts_at mark xs else before_first_part x (parts_at mark xs)) ≡ (x ∷ xs) ∷ []) [
+      | true ↦ λ h. absurd (omega arith)
+      | false ↦ λ h. ap (before_first_part x) (parts_at-none mark xs (omega arith))
+    ] h
+
+-- a byte more in the first part makes no more parts
+longer : (x : ℕ) (parts : List (List ℕ)) (n : ℕ) → length parts ≤ n → 1 ≤ n → length (before_first_part x parts) ≤ n
+longer x [] n h one = one
+longer x (part ∷ parts) n h one = h
+
+-- there is a part
+some_part : (mark : ℕ) (xs : List ℕ) → parts_at mark xs ≡ [] → ⊥
+some_part mark [] h = cc
+some_part mark (x ∷ xs) h =
+    elim (x == mark) as (λ b. (if b then [] ∷ parts_at mark xs else before_first_part x (parts_at mark xs)) ≡ [] → ⊥) [
+      | true ↦ λ h. cc
+      | false ↦ λ h. elim (parts_at mark xs) as (λ parts. before_first_part x parts ≡ [] → ⊥) [ [] ↦ λ h. cc | part ∷ parts ↦ λ h. cc ] h
+    ] h
+
+one_before : (x : ℕ) (xs : List ℕ) (parts : List (List ℕ)) (part : List ℕ) → ((p : List ℕ) → parts ≡ p ∷ [] → p ≡ xs) → (parts ≡ [] → ⊥) → before_first_part x parts ≡ part ∷ [] → part ≡ x ∷ xs
+one_before x xs [] part is some h = absurd (some refl)
+one_before x xs (p ∷ []) part is some h = let e : p ≡ xs = is p refl in cc
+one_before x xs (p ∷ q ∷ parts) part is some h = absurd (cc)
+
+-- at the first place of the mark
+pub parts_at-found : (mark : ℕ) (xs : List ℕ) (at : ℕ) → Some at ≡ position (λ b. b == mark) xs → parts_at mark xs ≡ take at xs ∷ parts_at mark (drop (at + 1) xs)
+parts_at-found mark xs at h =
+    elim (nat_lt (place_of mark xs) (length xs)) as (λ b. nat_lt (place_of mark xs) (length xs) ≡ b → Some at ≡ cond b (Some (place_of mark xs)) None → parts_at mark xs ≡ take at xs ∷ parts_at mark (drop (at + 1) xs)) [
+      | true ↦ λ below h. let here : at ≡ place_of mark xs = cc in rw here (parts_at-mark mark xs (ltb-true _ _ below))
+      | false ↦ λ _ h. absurd (cc)
+    ] refl h
+
+-- without the mark
+pub parts_at-whole : (mark : ℕ) (xs : List ℕ) → None ≡ position (λ b. b == mark) xs → parts_at mark xs ≡ xs ∷ []
+parts_at-whole mark xs h =
+    elim (nat_lt (place_of mark xs) (length xs)) as (λ b. nat_lt (place_of mark xs) (length xs) ≡ b → None ≡ cond b (Some (place_of mark xs)) None → parts_at mark xs ≡ xs ∷ []) [
+      | true ↦ λ _ h. absurd (cc)
+      | false ↦ λ past _. parts_at-none mark xs (ltb-false _ _ past)
+    ] refl h
+
+-- there is a part more than there are marks, so there are at most as many as bytes and one
+pub length-parts_at : (mark : ℕ) (xs : List ℕ) → length (parts_at mark xs) ≤ length xs + 1
+length-parts_at mark [] = omega arith
+length-parts_at mark (x ∷ xs) =
+    elim (x == mark) as (λ b. length (if b then [] ∷ parts_at mark xs else before_first_part x (parts_at mark xs)) ≤ length (x ∷ xs) + 1) [
+      | true ↦ omega (arith, length-parts_at mark xs)
+      | false ↦ omega (arith, longer x (parts_at mark xs) (length xs + 1) (length-parts_at mark xs) (omega arith))
+    ]
+
+-- where there is one part, it is the whole
+pub parts_at-one : (mark : ℕ) (xs part : List ℕ) → parts_at mark xs ≡ part ∷ [] → part ≡ xs
+parts_at-one mark [] part h = cc
+parts_at-one mark (x ∷ xs) part h =
+    elim (x == mark) as (λ b. (if b then [] ∷ parts_at mark xs else before_first_part x (parts_at mark xs)) ≡ part ∷ [] → part ≡ x ∷ xs) [
+      | true ↦ λ h. absurd (some_part mark xs (cc))
+      | false ↦ λ h. one_before x xs (parts_at mark xs) part (λ p. parts_at-one mark xs p) (some_part mark xs) h
+    ] h
