@@ -1,4 +1,5 @@
-ghost use Rattle.std.specs.Prelude.{◌≡◌, ◌<◌, ◌==◌, [], ◌∷◌, ◌++◌, length, slice_get, OnOk, OnErr, Some};
+ghost use Rattle.std.specs.Prelude.{◌≡◌, ◌<◌, ◌==◌, [], ◌∷◌, ◌++◌, length, position, slice_get, OnOk, OnErr, Some};
+ghost use Rattle.std.specs.Cmp.Lexicographic.{pointwise};
 
 use crate::{Pattern, Var};
 use std::alloc::{AllocError, Global};
@@ -60,6 +61,13 @@ impl Names {
         &self.names[i]
     }
 
+    /// The first place of a name, if it is there.
+    pub fn position(&self, name: &[u8]) -> Option<usize>
+        ensures { result ≡ position (λ met. pointwise ◌==◌ met name.now) self.now }
+    {
+        position_of(&self.names, name)
+    }
+
     /// Puts a copy of a name at the end, or changes nothing.
     pub fn push(&mut self, name: &[u8]) -> Result<(), AllocError>
         ensures ok { OnOk result (self.new ≡ self.old ++ name.now ∷ []) }
@@ -68,6 +76,12 @@ impl Names {
         self.names.push(name.to_vec(self.alloc)?)?;
         Ok(())
     }
+}
+
+fn position_of(names: &[Vec<u8>], name: &[u8]) -> Option<usize>
+    ensures { result ≡ position (λ met. pointwise ◌==◌ met.items name.now) names.now }
+{
+    names.iter().position(|met| met.as_slice() == name)
 }
 
 /// A list of variables.

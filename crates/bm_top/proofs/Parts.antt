@@ -1,9 +1,10 @@
 -- The parts of a text, and the first place of the mark.
-use Rattle.std.proofs.Common.{◌≡◌, ℕ, ◌+◌, ◌-◌, ◌<◌, Bool, true, false, not, cond, ◌==◌, nat_lt, ◌≤◌, if◌then◌else◌, List, [], ◌∷◌, length, take, drop, Option, Some, None, refl, add_comm, add-one, arith, rules, sym, ◌∙◌, ap}
+use Rattle.std.proofs.Common.{◌≡◌, ℕ, ◌+◌, ◌-◌, ◌<◌, Bool, true, false, not, cond, ◌==◌, nat_lt, ◌≤◌, if◌then◌else◌, List, [], ◌∷◌, length, take, drop, Option, Some, None, is_none, Bor, refl, add_comm, add-one, arith, rules, sym, ◌∙◌, ap}
 use Rattle.std.proofs.lemmas.Grind.{common_steps}
 use Rattle.std.proofs.lemmas.Bool.{ltb-true, ltb-false}
 use Rattle.std.specs.List.{prefix_len, position}
-use Rattle.bm_top.specs.Pieces.{parts_at, before_first_part}
+use Rattle.std.specs.Option.{option_copied}
+use Rattle.bm_top.specs.Pieces.{parts_at, parts_left, before_first_part}
 
 -- how many bytes stand before the first mark
 abbrev place_of : ℕ → List ℕ → ℕ
@@ -88,3 +89,12 @@ parts_at-one mark (x ∷ xs) part h =
       | true ↦ λ h. absurd (some_part mark xs (cc))
       | false ↦ λ h. one_before x xs (parts_at mark xs) part (λ p. parts_at-one mark xs p) (some_part mark xs) h
     ] h
+
+-- what is left has a part
+pub parts_left-some : (mark : ℕ) (rest : Option (Bor (List ℕ))) → is_none rest ≡ false → (length (parts_left mark (option_copied rest)) == 0) ≡ false
+parts_left-some mark None h = absurd (cc)
+parts_left-some mark (Some bytes) h =
+    elim (parts_at mark bytes.now) as (λ parts. (parts ≡ [] → ⊥) → (length parts == 0) ≡ false) [
+      | [] ↦ λ some. absurd (some refl)
+      | part ∷ parts ↦ λ some. grind (arith, common_steps)
+    ] (some_part mark bytes.now)

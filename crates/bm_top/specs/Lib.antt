@@ -1,3 +1,4 @@
 pub mod Pieces
 pub mod PlainData
+pub mod PlainQuery
 pub mod Reading

@@ -1,5 +1,7 @@
 //! The top of the program: what a command does, from the bytes that come in to the bytes that go out.
 #![tactic(auto)]
 
+mod graph;
 mod pieces;
 mod plain_data;
+mod plain_query;

@@ -1,6 +1,7 @@
-ghost use Rattle.std.specs.Prelude.{◌≡◌, ◌<◌, ◌^◌, ◌++◌, Ok, Err, Some, None, Vec, Result, OnOk, OnErr, length};
+ghost use Rattle.std.specs.Prelude.{◌≡◌, ◌<◌, ◌^◌, ◌++◌, Ok, Err, Some, None, Vec, Result, OnOk, OnErr, MatchOption, true, false, length};
 ghost use Rattle.std.specs.Option.{option_map};
 ghost use Rattle.bm_term.specs.Iri.{reads_iri};
+ghost use Rattle.bm_term.specs.TermRef.{text_of};
 ghost use Rattle.bm_top.specs.Pieces.{parts_at};
 ghost use Rattle.bm_top.specs.PlainData.{triple_texts, plain_line};
 ghost use Rattle.bm_top.specs.Reading.{IsIriOf, IsLineOf, AddsLine, IsDataOf};
@@ -110,8 +111,15 @@ fn split_triple(line: &[u8]) -> Option<(&[u8], &[u8], &[u8])>
 fn read_iri(alloc: Global, text: &[u8]) -> Result<Term, LineFault>
     ensures { IsIriOf text.now result }
 {
-    match TermRef::new(text) {
+    match plain_iri(text) {
         Some(term) => Ok(Term::copy_of(alloc, term)?),
         None => Err(LineFault::Bad),
     }
+}
+
+/// The term with this text, where it is that of an IRI of ASCII.
+pub(crate) fn plain_iri(text: &[u8]) -> Option<TermRef<'_>>
+    ensures { MatchOption result (reads_iri text.now ≡ false) (λ iri. (reads_iri text.now ≡ true) × (text_of iri ≡ text.now)) }
+{
+    TermRef::new(text)
 }
