@@ -4,7 +4,7 @@ use Rattle.std.specs.Prelude.{ℕ, Bool, if◌then◌else◌, List, [], ◌∷�
 use Rattle.std.specs.declared.cmp.Ordering.{Ordering}
 use Rattle.std.specs.List.{list_any}
 use Rattle.std.specs.Option.{option_cmp}
-use Rattle.std.specs.Ordering.{nat_cmp, is_gt, is_eq}
+use Rattle.std.specs.Ordering.{nat_cmp, is_lt, is_eq}
 use Rattle.std.specs.Cmp.Lexicographic.{slice_cmp}
 use Rattle.bm_term.specs.declared.triple.Triple.{Triple}
 use Rattle.alg_model.specs.declared.var.Var.{Var}
@@ -27,10 +27,10 @@ module _ {X : Type 0} (cmp : X → X → Ordering) where
   each_once [] = []
   each_once (x ∷ xs) = if list_any (λ y. is_eq (cmp x y)) xs then each_once xs else x ∷ each_once xs
 
-  -- an item behind those that it is greater than
+  -- an item behind the first ones that are less
   abbrev pub put_in_order : X → List X → List X
   put_in_order x [] = x ∷ []
-  put_in_order x (y ∷ ys) = if is_gt (cmp x y) then y ∷ put_in_order x ys else x ∷ y ∷ ys
+  put_in_order x (y ∷ ys) = if is_lt (cmp y x) then y ∷ put_in_order x ys else x ∷ y ∷ ys
 
   -- the items in ascending order
   abbrev pub in_order : List X → List X

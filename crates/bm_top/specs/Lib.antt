@@ -2,3 +2,4 @@ pub mod Pieces
 pub mod PlainData
 pub mod PlainQuery
 pub mod Reading
+pub mod RowOrder

@@ -2,7 +2,7 @@
 -- end after it. A pattern is a subject, a predicate and an object, separated by one space each. The predicate is an
 -- IRI; a subject or an object is an IRI, or a variable: `?` and one or more ASCII letters and digits.
 -- SPARQL 1.1 Query, sections 2 and 4.2.
-use Rattle.std.specs.Prelude.{ℕ, ◌+◌, Bool, true, false, ◌&&◌, ◌||◌, ◌==◌, not, nat_le, nat_lt, if◌then◌else◌, List, [], ◌∷◌, ◌++◌, map, length, Option, Some, None, position}
+use Rattle.std.specs.Prelude.{◌≡◌, ℕ, ◌<◌, ◌≤◌, All, ◌+◌, Bool, true, false, ◌&&◌, ◌||◌, ◌==◌, not, nat_le, nat_lt, if◌then◌else◌, List, [], ◌∷◌, ◌++◌, map, length, Option, Some, None, position}
 use Rattle.std.specs.List.{list_all, range_with_len}
 use Rattle.std.specs.Option.{option_and_then, option_map}
 use Rattle.std.specs.Cmp.Lexicographic.{pointwise}
@@ -13,6 +13,7 @@ use Rattle.alg_model.specs.declared.pattern.Place.TheVariants as places
 use Rattle.alg_model.specs.declared.pattern.TriplePat.{TriplePat}
 use Rattle.alg_model.specs.declared.pattern.Pattern.TheVariants as patterns
 use Rattle.alg_model.specs.declared.query.Query.{Query}
+use Rattle.alg_model.specs.Pattern.{algebra_of, HasVarsBelow}
 use Rattle.bm_top.specs.Pieces.{parts_at}
 use Rattle.bm_top.specs.declared.plain_query.TheConstants.{SELECT, STAR, OPEN, CLOSE, CLOSE_AND_END, STOP, QUESTION, MAX_VARIABLES, MAX_PATTERNS}
 use Rattle.bm_top.specs.declared.plain_data.TheConstants.{SPACE}
@@ -96,3 +97,21 @@ query_of_words words = None
 -- the query that a text is, if it is a plain one
 abbrev pub query_of : List ℕ → Option Query
 query_of text = query_of_words (parts_at SPACE text)
+
+-- the variable has a number below n, where the place is one
+abbrev pub IsPlaceBelow : ℕ → Place → Type 0
+IsPlaceBelow n (places.Var var) = var.0 < n
+IsPlaceBelow n (places.Term text) = Unit {0}
+
+-- each variable of the triple pattern has a number below n
+pub record IsPatternBelow (n : ℕ) (pattern : TriplePat) : Type 0 where
+  pub subject : IsPlaceBelow n pattern.subject
+  pub predicate : IsPlaceBelow n pattern.predicate
+  pub object : IsPlaceBelow n pattern.object
+
+-- what every plain query is
+pub record IsPlain (query : Query) : Type 0 where
+  pub few : length query.names ≤ MAX_VARIABLES
+  pub vars_below : HasVarsBelow (length query.names) (algebra_of query.pattern)
+  pub columns_below : All (λ column. column.0 < length query.names) query.columns
+  pub not_distinct : query.distinct ≡ false

@@ -1,6 +1,8 @@
 //! The top of the program: what a command does, from the bytes that come in to the bytes that go out.
 #![tactic(auto)]
 
+mod answer_row;
+mod answers;
 mod graph;
 mod pieces;
 mod plain_data;
