@@ -1,3 +1,7 @@
+pub mod Answered
+pub mod Distinct
+pub mod Lists
 pub mod Parts
 pub mod PlainLines
 pub mod PlainQueries
+pub mod PlainVars

@@ -1,8 +1,8 @@
-ghost use Rattle.std.specs.Prelude.{◌≡◌, ◌==◌, ◌<◌, ◌≤◌, [], ◌∷◌, map, length, IfOk, MatchOption};
+ghost use Rattle.std.specs.Prelude.{◌≡◌, ◌==◌, ℕ, ◌<◌, ◌≤◌, [], ◌∷◌, All, length, IfOk, MatchOption};
 ghost use Rattle.std.specs.List.{list_all};
 ghost use Rattle.std.specs.Option.{option_copied};
 ghost use Rattle.bm_top.specs.Pieces.{parts_at, parts_left};
-ghost use Rattle.bm_top.specs.PlainQuery.{numbered, variable_place, iri_place, node_place, pattern_of, ends_query, patterns_of, query_of};
+ghost use Rattle.bm_top.specs.PlainQuery.{numbered, variable_place, iri_place, node_place, pattern_of, ends_query, patterns_of, query_of, IsPlaceBelow, IsPatternBelow, IsPlain};
 ghost use Rattle.bm_top.specs.PlainQuery as spec;
 ghost use Rattle.bm_top.specs.Reading.{IsReadOf, IsReadWith};
 
@@ -45,7 +45,8 @@ impl From<AllocError> for QueryFault {
 
 /// The query that a text is, if it is a plain one.
 pub(crate) fn read_query(alloc: Global, text: &[u8]) -> Result<Query, QueryFault>
-    ensures { IsReadOf (query_of text.now) result }
+    ensures read { IsReadOf (query_of text.now) result }
+    ensures plain { IfOk result IsPlain }
 {
     let Some((select, star, brace, rest)) = split_opening(text) else {
         return Err(QueryFault::NotPlain);
@@ -72,7 +73,9 @@ fn split_opening(text: &[u8]) -> Option<(&[u8], &[u8], &[u8], Option<&[u8]>)>
 // The query of these patterns, whose columns are all variables, in order of number.
 fn whole_query(alloc: Global, names: Names, patterns: PatList) -> Result<Query, AllocError>
     requires few { length names ≤ MAX_VARIABLES }
-    ensures { IfOk result (λ query. query ≡ spec.whole_query (names, patterns)) }
+    requires below { All (IsPatternBelow (length names)) patterns }
+    ensures query { IfOk result (λ query. query ≡ spec.whole_query (names, patterns)) }
+    ensures plain { IfOk result IsPlain }
 {
     let mut columns = Columns::new(alloc);
     for number in 0..names.len() {
@@ -90,6 +93,7 @@ fn whole_query(alloc: Global, names: Names, patterns: PatList) -> Result<Query, 
 fn read_patterns(alloc: Global, text: Option<&[u8]>) -> Result<(Names, PatList), QueryFault>
     ensures read { IsReadOf (patterns_of [] 1 (parts_left SPACE (option_copied text.entry))) result }
     ensures few { IfOk result (λ read. length read.0 ≤ MAX_VARIABLES) }
+    ensures below { IfOk result (λ read. All (IsPatternBelow (length read.0)) read.1) }
 {
     let mut names = Names::new(alloc);
     let mut patterns = PatList::new(alloc);
@@ -147,6 +151,8 @@ fn read_pattern(
     requires few { length names.old ≤ MAX_VARIABLES }
     ensures read { IsReadWith (pattern_of names.old number subject.now predicate.now object.now) names.new result }
     ensures few { length names.new ≤ MAX_VARIABLES }
+    ensures below { IfOk result (IsPatternBelow (length names.new)) }
+    ensures grows { length names.old ≤ length names.new }
 {
     let subject = read_node(alloc, names, subject)?;
     let predicate = read_predicate(alloc, predicate)?;
@@ -160,7 +166,8 @@ fn read_pattern(
 }
 
 fn read_predicate(alloc: Global, word: &[u8]) -> Result<Place, QueryFault>
-    ensures { IsReadOf (iri_place word.now) result }
+    ensures read { IsReadOf (iri_place word.now) result }
+    ensures below { (n : ℕ) → IfOk result (IsPlaceBelow n) }
 {
     match plain_iri(word) {
         Some(iri) => Ok(Place::Term(Term::copy_of(alloc, iri)?)),
@@ -172,6 +179,8 @@ fn read_node(alloc: Global, names: &mut Names, word: &[u8]) -> Result<Place, Que
     requires few { length names.old ≤ MAX_VARIABLES }
     ensures read { IsReadWith (node_place names.old word.now) names.new result }
     ensures few { length names.new ≤ MAX_VARIABLES }
+    ensures below { IfOk result (IsPlaceBelow (length names.new)) }
+    ensures grows { length names.old ≤ length names.new }
 {
     match plain_iri(word) {
         Some(iri) => Ok(Place::Term(Term::copy_of(alloc, iri)?)),
@@ -183,6 +192,8 @@ fn read_variable(names: &mut Names, word: &[u8]) -> Result<Place, QueryFault>
     requires few { length names.old ≤ MAX_VARIABLES }
     ensures read { IsReadWith (variable_place names.old (spec.variable_name word.now)) names.new result }
     ensures few { length names.new ≤ MAX_VARIABLES }
+    ensures below { IfOk result (IsPlaceBelow (length names.new)) }
+    ensures grows { length names.old ≤ length names.new }
 {
     match variable_name(word) {
         Some(name) => Ok(Place::Var(Var(number_name(names, name)?))),
@@ -229,6 +240,8 @@ fn number_name(names: &mut Names, name: &[u8]) -> Result<u8, QueryFault>
     requires few { length names.old ≤ MAX_VARIABLES }
     ensures read { IsReadWith (numbered names.old name.now) names.new result }
     ensures few { length names.new ≤ MAX_VARIABLES }
+    ensures below { IfOk result (λ number. number < length names.new) }
+    ensures grows { length names.old ≤ length names.new }
 {
     if let Some(number) = names.position(name) {
         return Ok(number as u8);

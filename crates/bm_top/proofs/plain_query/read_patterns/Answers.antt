@@ -4,6 +4,7 @@ use Rattle.bm_top.specs.Pieces.{parts_left}
 use Rattle.bm_top.specs.PlainQuery.{patterns_of}
 use Rattle.bm_top.proofs.Parts.{parts_left-some}
 use Rattle.bm_top.proofs.PlainQueries.{after, patterns_of-too_long, patterns_of-goes_on}
+use Rattle.bm_top.proofs.PlainVars.{below_push}
 use Rattle.bm_top.proofs.plain_query.read_patterns.Goals as goal
 
 pub returns-else-is_none-clause-read : goal.returns-else-is_none-clause-read
@@ -25,4 +26,5 @@ loop-rest-preserved c =
           ∙ c.loop-rest.invariant.read;
       few = c.in_ok-pattern.ensures.few;
       number = omega arith;
+      below = below_push _ _ _ _ c.in_ok-pattern.pattern c.read_pattern.ensures.grows c.loop-rest.invariant.below c.in_ok-pattern.ensures.below c.in_ok-push.ensures.ok;
     }
