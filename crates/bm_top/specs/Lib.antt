@@ -3,3 +3,4 @@ pub mod PlainData
 pub mod PlainQuery
 pub mod Reading
 pub mod RowOrder
+pub mod Tsv

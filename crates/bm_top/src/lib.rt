@@ -7,3 +7,4 @@ mod graph;
 mod pieces;
 mod plain_data;
 mod plain_query;
+mod tsv;
