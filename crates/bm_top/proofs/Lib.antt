@@ -1,4 +1,5 @@
 pub mod Answered
+pub mod Deciding
 pub mod Distinct
 pub mod Lists
 pub mod Parts

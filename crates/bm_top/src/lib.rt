@@ -3,8 +3,12 @@
 
 mod answer_row;
 mod answers;
+mod command;
+mod decide;
+mod ending;
 mod graph;
 mod pieces;
 mod plain_data;
 mod plain_query;
+mod steps;
 mod tsv;

@@ -1,0 +1,49 @@
+-- How a command ended, and what is known then.
+use Rattle.std.specs.Prelude.{◌≡◌, ◌⊎◌, ℕ, List, [], ◌∷◌, take, Option, Vec, Result, Ok, Err, IsSomeAnd}
+use Rattle.std.specs.declared.alloc.Global.{Global}
+use Rattle.bm_world.specs.Meanings.{Meanings, with_printed}
+use Rattle.bm_world.specs.World.{Rose}
+use Rattle.bm_top.specs.declared.ending.Ending.{Ending}
+use Rattle.bm_top.specs.declared.ending.Ending.TheVariants as ends
+use Rattle.bm_top.specs.declared.ending.TheConstants.{USAGE, NOT_PLAIN, WRITE_FAULT, OUT_OF_MEMORY}
+use Rattle.bm_top.specs.Verdict.{Verdict, answered, refused, read_fault_line, limit_line, bad_line_line}
+
+abbrev pub status_of : Ending → ℕ
+status_of ends.Done = 0
+status_of ends.Usage = 1
+status_of (ends.BadLine line) = 2
+status_of ends.NotPlain = 3
+status_of (ends.ReadFault name) = 5
+status_of ends.WriteFault = 6
+status_of ends.Memory = 7
+status_of (ends.TooLong name limit) = 8
+
+-- the line that is complained
+abbrev pub line_of : Ending → List ℕ
+line_of ends.Done = []
+line_of ends.Usage = USAGE.now
+line_of (ends.BadLine line) = bad_line_line line
+line_of ends.NotPlain = NOT_PLAIN.now
+line_of (ends.ReadFault name) = read_fault_line name.now
+line_of ends.WriteFault = WRITE_FAULT.now
+line_of ends.Memory = OUT_OF_MEMORY.now
+line_of (ends.TooLong name limit) = limit_line name.now limit
+
+-- only what is left to read has changed
+abbrev pub ReadOnly : Meanings → Meanings → Type 0
+ReadOnly m n = n ≡ record m { rest = n.rest }
+
+-- and then this was printed
+abbrev pub Printed : List ℕ → Meanings → Meanings → Type 0
+Printed text m n = n ≡ with_printed (record m { rest = n.rest }) text
+
+-- What is known at each ending, of the verdict of the steps and of what has moved.
+abbrev pub EndsSo : Verdict → Ending → Meanings → Meanings → Type 0
+EndsSo verdict ends.Done m n = (verdict.status ≡ 0) × Printed verdict.text m n
+EndsSo verdict ends.WriteFault m n = (verdict.status ≡ 0) × ((count : ℕ) × Printed (take count verdict.text) m n)
+EndsSo verdict ends.Memory m n = ReadOnly m n
+EndsSo verdict (ends.ReadFault name) m n = ReadOnly m n
+EndsSo verdict ends.Usage m n = (verdict ≡ refused 1 USAGE.now) × ReadOnly m n
+EndsSo verdict (ends.BadLine line) m n = (verdict ≡ refused 2 (bad_line_line line)) × ReadOnly m n
+EndsSo verdict ends.NotPlain m n = (verdict ≡ refused 3 NOT_PLAIN.now) × ReadOnly m n
+EndsSo verdict (ends.TooLong name limit) m n = (verdict ≡ refused 8 (limit_line name.now limit)) × ReadOnly m n

@@ -1,0 +1,69 @@
+ghost use Rattle.std.specs.Prelude.{◌<◌, ◌^◌, length};
+ghost use Rattle.bm_top.specs.Verdict.{decided};
+ghost use Rattle.bm_top.specs.Decide.{IsDecided, from_data, from_query};
+
+use crate::answers::answers;
+use crate::graph::graph;
+use crate::plain_data::{DataFault, read_data};
+use crate::plain_query::{QueryFault, read_query};
+use crate::tsv::tsv;
+use std::alloc::{AllocError, Global};
+
+/// Why there is no text to print.
+#[derive(Clone, Copy, Debug)]
+pub(crate) enum Refusal {
+    BadLine { line: u64 },
+    NotPlain,
+    Memory,
+}
+
+impl From<DataFault> for Refusal {
+    ghost use Rattle.std.specs.Prelude.{◌≡◌};
+    ghost use Rattle.bm_top.specs.Decide.{from_data};
+
+    ghost from_gives = { λ fault refusal. refusal ≡ from_data fault };
+
+    fn from(fault: DataFault) -> Self {
+        match fault {
+            DataFault::BadLine { line } => Refusal::BadLine { line },
+            DataFault::Memory => Refusal::Memory,
+        }
+    }
+}
+
+impl From<QueryFault> for Refusal {
+    ghost use Rattle.std.specs.Prelude.{◌≡◌};
+    ghost use Rattle.bm_top.specs.Decide.{from_query};
+
+    ghost from_gives = { λ fault refusal. refusal ≡ from_query fault };
+
+    fn from(fault: QueryFault) -> Self {
+        match fault {
+            QueryFault::NotPlain => Refusal::NotPlain,
+            QueryFault::Memory => Refusal::Memory,
+        }
+    }
+}
+
+impl From<AllocError> for Refusal {
+    ghost use Rattle.std.specs.Prelude.{◌≡◌};
+    ghost use Rattle.bm_top.specs.declared.decide.Refusal.TheVariants.{Memory};
+
+    ghost from_gives = { λ _ refusal. refusal ≡ Memory };
+
+    fn from(_: AllocError) -> Self {
+        Refusal::Memory
+    }
+}
+
+/// The text that answers a query over data, or why there is none: the first bad line, and then the query.
+pub(crate) fn decide(alloc: Global, data: &[u8], query: &[u8]) -> Result<Vec<u8>, Refusal>
+    requires { length data.now < 2 ^ 63 }
+    ensures { IsDecided (decided data.now query.now) result }
+{
+    let triples = read_data(alloc, data)?;
+    let query = read_query(alloc, query)?;
+    let graph = graph(alloc, triples)?;
+    let answers = answers(alloc, &query, &graph)?;
+    Ok(tsv(alloc, &query, &answers)?)
+}

@@ -1,0 +1,100 @@
+ghost use Rattle.std.specs.Prelude.{◌≡◌, ◌<◌, ◌≤◌, ◌^◌, ◌⊎◌, length, IsSomeAnd};
+ghost use Rattle.bm_world.specs.World.{Step, Rose};
+ghost use Rattle.bm_top.specs.Command.{requested};
+ghost use Rattle.bm_top.specs.Ending.{EndsSo, HasReason};
+ghost use Rattle.bm_top.specs.Verdict.{decided, request_verdict};
+
+use crate::command::Command;
+use crate::decide::{Refusal, decide};
+use crate::ending::Ending;
+use bm_world::{Failed, ReadEnd, World, print_all, read_all};
+use std::alloc::Global;
+
+/// The bytes that a data file may have.
+pub const MAX_DATA_BYTES: u64 = 536_870_912;
+
+/// The bytes that a query file may have.
+pub const MAX_QUERY_BYTES: u64 = 1_048_576;
+
+/// Does what a command asks for.
+pub(crate) fn perform<'a, W: World>(
+    alloc: Global,
+    command: Command<'a>,
+    world: &mut W,
+) -> Ending<'a>
+    ensures step { Step (W.told world.old) (W.told world.new) (λ m n. EndsSo (request_verdict m.files (requested command.entry)) result m n) }
+    ensures reason { HasReason (λ files. request_verdict files (requested command.entry)) (W.told world.old) (W.read_faults world.old) (W.read_faults world.new) (W.write_faults world.old) (W.write_faults world.new) result }
+    ensures say_faults_stay { W.say_faults world.new ≡ W.say_faults world.old }
+{
+    match command {
+        Command::Ask { data, query } => ask(alloc, data, query, world),
+    }
+}
+
+fn ask<'a, W: World>(alloc: Global, data: &'a str, query: &'a str, world: &mut W) -> Ending<'a>
+    ensures step { Step (W.told world.old) (W.told world.new) (λ m n. EndsSo (request_verdict m.files (ask data.now query.now)) result m n) }
+    ensures reason { HasReason (λ files. request_verdict files (ask data.now query.now)) (W.told world.old) (W.read_faults world.old) (W.read_faults world.new) (W.write_faults world.old) (W.write_faults world.new) result }
+    ensures say_faults_stay { W.say_faults world.new ≡ W.say_faults world.old }
+{
+    match read_all(alloc, world, data, MAX_DATA_BYTES) {
+        Ok(bytes) => ask_of_data(alloc, &bytes, query, world),
+        Err(end) => read_ending(end, data, MAX_DATA_BYTES),
+    }
+}
+
+// The steps of `ask` that are left when the data has been read.
+fn ask_of_data<'a, W: World>(
+    alloc: Global,
+    data: &[u8],
+    query: &'a str,
+    world: &mut W,
+) -> Ending<'a>
+    requires { length data.now < 2 ^ 63 }
+    ensures step { Step (W.told world.old) (W.told world.new) (λ m n. EndsSo (query_verdict m.files data.now query.now) result m n) }
+    ensures reason { HasReason (λ files. query_verdict files data.now query.now) (W.told world.old) (W.read_faults world.old) (W.read_faults world.new) (W.write_faults world.old) (W.write_faults world.new) result }
+    ensures say_faults_stay { W.say_faults world.new ≡ W.say_faults world.old }
+{
+    match read_all(alloc, world, query, MAX_QUERY_BYTES) {
+        Ok(text) => print_decided(alloc, data, &text, world),
+        Err(end) => read_ending(end, query, MAX_QUERY_BYTES),
+    }
+}
+
+// The steps of `ask` that are left when both files have been read.
+fn print_decided<'a, W: World>(
+    alloc: Global,
+    data: &[u8],
+    query: &[u8],
+    world: &mut W,
+) -> Ending<'a>
+    requires { length data.now < 2 ^ 63 }
+    ensures step { Step (W.told world.old) (W.told world.new) (EndsSo (decided data.now query.now) result) }
+    ensures reason { HasReason (λ files. decided data.now query.now) (W.told world.old) (W.read_faults world.old) (W.read_faults world.new) (W.write_faults world.old) (W.write_faults world.new) result }
+    ensures say_faults_stay { W.say_faults world.new ≡ W.say_faults world.old }
+{
+    match decide(alloc, data, query) {
+        Ok(text) => print_ending(print_all(world, &text)),
+        Err(Refusal::BadLine { line }) => Ending::BadLine { line },
+        Err(Refusal::NotPlain) => Ending::NotPlain,
+        Err(Refusal::Memory) => Ending::Memory,
+    }
+}
+
+fn print_ending<'a>(printed: Result<(), Failed>) -> Ending<'a>
+    ensures { result ≡ after_printing printed }
+{
+    match printed {
+        Ok(()) => Ending::Done,
+        Err(Failed) => Ending::WriteFault,
+    }
+}
+
+fn read_ending(end: ReadEnd, name: &str, limit: u64) -> Ending<'_>
+    ensures { result ≡ after_reading end name.entry limit }
+{
+    match end {
+        ReadEnd::Fault => Ending::ReadFault { name },
+        ReadEnd::TooLong => Ending::TooLong { name, limit },
+        ReadEnd::Memory => Ending::Memory,
+    }
+}
