@@ -1,3 +1,5 @@
 pub mod Meanings
 pub mod World
 pub mod Reading
+pub mod FileTable
+pub mod Schedule

@@ -3,10 +3,14 @@
 //! the world tells its content, and what shows that a call failed, where it doesn't.
 #![tactic(auto)]
 
+mod file_table;
+mod open_file;
 mod reading;
 mod saying;
+mod schedule;
 mod world;
 
 pub use reading::{ReadEnd, read_all};
 pub use saying::{complain_all, print_all};
+pub use schedule::WorldCall;
 pub use world::{Failed, World};
