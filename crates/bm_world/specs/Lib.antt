@@ -3,3 +3,4 @@ pub mod World
 pub mod Reading
 pub mod FileTable
 pub mod Schedule
+pub mod MemWorld

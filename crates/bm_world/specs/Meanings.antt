@@ -1,5 +1,5 @@
 -- What a world holds: its files, what is left to read, the file that is being made, and what was said.
-use Rattle.std.specs.Prelude.{ℕ, List, ◌++◌, Option}
+use Rattle.std.specs.Prelude.{ℕ, List, [], ◌++◌, Option, unwrap_or}
 use Rattle.std.specs.Option.{option_map_or}
 use Rattle.std.specs.Ordering.{nat_cmp}
 use Rattle.std.specs.Cmp.Lexicographic.{slice_cmp}
@@ -21,6 +21,10 @@ pub record Meanings : Type 0 where
 -- the bytes of the named file, if it is there
 abbrev pub file_at : Meanings → List ℕ → Option (List ℕ)
 file_at m name = get m.files name
+
+-- the bytes that are left to read, if a file is open
+abbrev pub left_to_read : Meanings → List ℕ
+left_to_read m = unwrap_or m.rest []
 
 -- these bytes at the end of the named file, where it is there
 abbrev pub append_to : Files → List ℕ → List ℕ → Files

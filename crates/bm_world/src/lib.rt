@@ -4,12 +4,14 @@
 #![tactic(auto)]
 
 mod file_table;
+mod mem_world;
 mod open_file;
 mod reading;
 mod saying;
 mod schedule;
 mod world;
 
+pub use mem_world::MemWorld;
 pub use reading::{ReadEnd, read_all};
 pub use saying::{complain_all, print_all};
 pub use schedule::WorldCall;
