@@ -61,7 +61,7 @@ append_to_some : (files : Files) (name bytes old : List ℕ) → get files name 
 append_to_some files name bytes old some = ap (λ file. option_map_or (λ (old : List ℕ). insert files name (old ++ bytes)) file files) some
 
 -- the bytes that are there are put again
-insert_same : (files : Files) (name bytes : List ℕ) → get files name ≡ Some bytes → insert files name bytes ≡ files
+pub insert_same : (files : Files) (name bytes : List ℕ) → get files name ≡ Some bytes → insert files name bytes ≡ files
 insert_same files name bytes is = same_map nat_list_cmp_total (slice_cmp-IsAntisymmetric nat_cmp-IsAntisymmetric) _ _ (λ q. get-insert nat_list_cmp_total files name bytes q ∙ at q _ refl)
   where
     at : (q : List ℕ) (o : Ordering) → slice_cmp nat_cmp q name ≡ o → cond (is_eq o) (Some bytes) (get files q) ≡ get files q

@@ -2,3 +2,4 @@ pub mod Steps
 pub mod Appending
 pub mod WholeFile
 pub mod FileTable
+pub mod Telling

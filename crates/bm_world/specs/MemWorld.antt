@@ -3,7 +3,6 @@ use Rattle.std.specs.Prelude.{◌≡◌, ℕ, ◌+◌, ◌-◌, ◌^◌, ◌==�
 use Rattle.std.specs.Coded.{Coded, code_by, coded×, coded_ℕ, coded_list, coded_option}
 use Rattle.std.specs.FinMap.{insert, code}
 use Rattle.bm_world.specs.contracts.schedule.WorldCall.{the_row}
-use Rattle.bm_world.specs.declared.schedule.WorldCall.{WorldCall}
 use Rattle.bm_world.specs.declared.world.Failed.{Failed}
 use Rattle.bm_world.specs.Meanings.{Files, Meanings}
 use Rattle.bm_world.specs.Schedule.{Schedule}

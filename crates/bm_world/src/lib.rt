@@ -16,3 +16,6 @@ pub use reading::{ReadEnd, read_all};
 pub use saying::{complain_all, print_all};
 pub use schedule::WorldCall;
 pub use world::{Failed, World};
+
+#[cfg(test)]
+mod tests;

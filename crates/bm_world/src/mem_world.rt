@@ -3,9 +3,9 @@ ghost use Rattle.std.specs.Prelude.{◌≡◌, ◌++◌, [], ◌∷◌, None, So
 ghost use Rattle.std.specs.Option.{option_copied, option_map};
 ghost use Rattle.std.specs.Result.{result_unwrap_or};
 ghost use Rattle.std.specs.FinMap as map;
-ghost use Rattle.bm_world.specs.Meanings.{file_at, left_to_read, with_written, with_printed, with_complained};
+ghost use Rattle.bm_world.specs.Meanings.{nothing_yet, file_at, left_to_read, with_begun, with_written, with_printed, with_complained};
 ghost use Rattle.bm_world.specs.Schedule.{is_due, after_call};
-ghost use Rattle.bm_world.specs.MemWorld.{with_file, Ends};
+ghost use Rattle.bm_world.specs.MemWorld.{with_file, raised, Ends};
 
 use crate::file_table::FileTable;
 use crate::open_file::OpenFile;
@@ -39,30 +39,24 @@ impl Model for MemWorld {
     ghost coded = { state_code };
 
     ghost view = { λ w. record {
-        meanings = record {
-            files = w.files;
-            rest = w.open_file;
-            made = option_map string_bytes w.made;
-            printed = w.printed.items;
-            complained = w.complained.items;
-        };
-        read_faults = w.read_faults;
-        write_faults = w.write_faults;
-        say_faults = w.say_faults;
-        schedule = w.schedule;
+      meanings = record {
+        files = w.files;
+        rest = w.open_file;
+        made = option_map string_bytes w.made;
+        printed = w.printed.items;
+        complained = w.complained.items;
+      };
+      read_faults = w.read_faults;
+      write_faults = w.write_faults;
+      say_faults = w.say_faults;
+      schedule = w.schedule;
     } };
 }
 
 impl MemWorld {
     /// A world with no files, nothing open, no file being made, nothing said and no faults.
     pub fn new(alloc: Global) -> Self
-        ensures { result ≡ record {
-            meanings = record { files = map.empty; rest = None; made = None; printed = []; complained = [] };
-            read_faults = 0;
-            write_faults = 0;
-            say_faults = 0;
-            schedule = [];
-        } }
+        ensures { result ≡ record { meanings = nothing_yet; read_faults = 0; write_faults = 0; say_faults = 0; schedule = [] } }
     {
         MemWorld {
             alloc,
@@ -86,7 +80,8 @@ impl MemWorld {
         self.files.put(name, bytes)
     }
 
-    /// From now on the `k`-th call of this kind fails, counted from 1, and takes no bytes.
+    /// From now on the `k`-th call of this kind fails, counted from 1: it takes no bytes and raises its count.
+    /// What was scheduled before stays so.
     pub fn fail_at(&mut self, call: WorldCall, k: u64) -> Result<(), AllocError>
         ensures ok { OnOk result (self.new ≡ record self.old { schedule = self.old.schedule ++ (call, k) ∷ [] }) }
         ensures err { OnErr result (self.new ≡ self.old) }
@@ -131,43 +126,42 @@ impl World for MemWorld {
     ghost say_faults = { λ w. w.say_faults };
 
     fn open(&mut self, name: &str) -> Result<(), Failed>
-        ensures ends { Ends (is_due WorldCall.Open self.old.schedule) (is_none (file_at self.old.meanings name.now)) result self.old.read_faults self.new.read_faults }
+        ensures ends { Ends (is_due WorldCall.Open self.old.schedule) (is_none (file_at self.old.meanings name.now))
+            result self.old.read_faults self.new.read_faults }
         ensures exact { self.new ≡ record self.old {
-            meanings = record self.old.meanings { rest = if is_ok result then file_at self.old.meanings name.now else None };
-            read_faults = self.new.read_faults;
-            schedule = after_call WorldCall.Open self.old.schedule;
+          meanings = record self.old.meanings { rest = if is_ok result then file_at self.old.meanings name.now else None };
+          read_faults = self.new.read_faults;
+          schedule = after_call WorldCall.Open self.old.schedule;
         } }
     {
         self.open_file = None;
         if self.schedule.pass(WorldCall::Open) {
-            self.read_faults = self.read_faults.saturating_add(1);
-            return Err(Failed);
+            return Err(raise(&mut self.read_faults));
         }
         let Some(bytes) = self.files.get(name) else {
             return Err(Failed);
         };
         let Ok(copy) = Vec::from_slice(self.alloc, bytes) else {
-            self.read_faults = self.read_faults.saturating_add(1);
-            return Err(Failed);
+            return Err(raise(&mut self.read_faults));
         };
         self.open_file = Some(OpenFile::new(copy));
         Ok(())
     }
 
     fn read(&mut self, into: &mut [u8]) -> Result<usize, Failed>
-        ensures ends { Ends (is_due WorldCall.Read self.old.schedule) (is_none self.old.meanings.rest) result self.old.read_faults self.new.read_faults }
+        ensures ends { Ends (is_due WorldCall.Read self.old.schedule) (is_none self.old.meanings.rest)
+            result self.old.read_faults self.new.read_faults }
         ensures no_memory { is_due WorldCall.Read self.old.schedule ≡ false → IsSome self.old.meanings.rest → IsOk result }
         ensures count { IfOk result (λ count. count ≡ min (length into.old) (length (left_to_read self.old.meanings))) }
-        ensures came { IfOk result (λ count. take count into.new ≡ take count (left_to_read self.old.meanings)) }
+        ensures came { let count = result_unwrap_or result 0 in into.new ≡ take count (left_to_read self.old.meanings) ++ drop count into.old }
         ensures exact { self.new ≡ record self.old {
-            meanings = record self.old.meanings { rest = option_map (drop (result_unwrap_or result 0)) self.old.meanings.rest };
-            read_faults = self.new.read_faults;
-            schedule = after_call WorldCall.Read self.old.schedule;
+          meanings = record self.old.meanings { rest = option_map (drop (result_unwrap_or result 0)) self.old.meanings.rest };
+          read_faults = self.new.read_faults;
+          schedule = after_call WorldCall.Read self.old.schedule;
         } }
     {
         if self.schedule.pass(WorldCall::Read) {
-            self.read_faults = self.read_faults.saturating_add(1);
-            return Err(Failed);
+            return Err(raise(&mut self.read_faults));
         }
         match &mut self.open_file {
             Some(file) => Ok(file.read(into)),
@@ -176,64 +170,62 @@ impl World for MemWorld {
     }
 
     fn create(&mut self, name: &str) -> Result<(), Failed>
-        ensures ends { Ends (is_due WorldCall.Create self.old.schedule) (is_some self.old.meanings.made) result self.old.write_faults self.new.write_faults }
+        ensures ends { Ends (is_due WorldCall.Create self.old.schedule) (is_some self.old.meanings.made)
+            result self.old.write_faults self.new.write_faults }
         ensures exact { self.new ≡ record self.old {
-            meanings = if is_ok result then record self.old.meanings { files = map.insert self.old.meanings.files name.now []; made = Some name.now } else self.old.meanings;
-            write_faults = self.new.write_faults;
-            schedule = after_call WorldCall.Create self.old.schedule;
+          meanings = if is_ok result then with_begun self.old.meanings name.now else self.old.meanings;
+          write_faults = self.new.write_faults;
+          schedule = after_call WorldCall.Create self.old.schedule;
         } }
     {
         if self.schedule.pass(WorldCall::Create) {
-            self.write_faults = self.write_faults.saturating_add(1);
-            return Err(Failed);
+            return Err(raise(&mut self.write_faults));
         }
         if self.made.is_some() {
             return Err(Failed);
         }
         let Ok(made) = begin(self.alloc, &mut self.files, name) else {
-            self.write_faults = self.write_faults.saturating_add(1);
-            return Err(Failed);
+            return Err(raise(&mut self.write_faults));
         };
         self.made = Some(made);
         Ok(())
     }
 
     fn write(&mut self, piece: &[u8]) -> Result<usize, Failed>
-        ensures ends { Ends (is_due WorldCall.Write self.old.schedule) (is_none self.old.meanings.made) result self.old.write_faults self.new.write_faults }
+        ensures ends { Ends (is_due WorldCall.Write self.old.schedule) (is_none self.old.meanings.made)
+            result self.old.write_faults self.new.write_faults }
         ensures all { IfOk result (λ count. count ≡ length piece.now) }
         ensures exact { self.new ≡ record self.old {
-            meanings = if is_ok result then with_written self.old.meanings piece.now else self.old.meanings;
-            write_faults = self.new.write_faults;
-            schedule = after_call WorldCall.Write self.old.schedule;
+          meanings = if is_ok result then with_written self.old.meanings piece.now else self.old.meanings;
+          write_faults = self.new.write_faults;
+          schedule = after_call WorldCall.Write self.old.schedule;
         } }
     {
         if self.schedule.pass(WorldCall::Write) {
-            self.write_faults = self.write_faults.saturating_add(1);
-            return Err(Failed);
+            return Err(raise(&mut self.write_faults));
         }
         let Some(name) = &self.made else {
             return Err(Failed);
         };
         if self.files.append(name.as_str(), piece).is_err() {
-            self.write_faults = self.write_faults.saturating_add(1);
-            return Err(Failed);
+            return Err(raise(&mut self.write_faults));
         }
         Ok(piece.len())
     }
 
     fn close(&mut self) -> Result<(), Failed>
-        ensures ends { Ends (is_due WorldCall.Close self.old.schedule) (is_none self.old.meanings.made) result self.old.write_faults self.new.write_faults }
+        ensures ends { Ends (is_due WorldCall.Close self.old.schedule) (is_none self.old.meanings.made)
+            result self.old.write_faults self.new.write_faults }
         ensures no_memory { is_due WorldCall.Close self.old.schedule ≡ false → IsSome self.old.meanings.made → IsOk result }
         ensures exact { self.new ≡ record self.old {
-            meanings = record self.old.meanings { made = None };
-            write_faults = self.new.write_faults;
-            schedule = after_call WorldCall.Close self.old.schedule;
+          meanings = record self.old.meanings { made = None };
+          write_faults = self.new.write_faults;
+          schedule = after_call WorldCall.Close self.old.schedule;
         } }
     {
         let made = self.made.take();
         if self.schedule.pass(WorldCall::Close) {
-            self.write_faults = self.write_faults.saturating_add(1);
-            return Err(Failed);
+            return Err(raise(&mut self.write_faults));
         }
         if made.is_none() {
             return Err(Failed);
@@ -242,36 +234,45 @@ impl World for MemWorld {
     }
 
     fn print(&mut self, piece: &[u8]) -> Result<usize, Failed>
-        ensures ends { Ends (is_due WorldCall.Print self.old.schedule) false result self.old.write_faults self.new.write_faults }
+        ensures ends { Ends (is_due WorldCall.Print self.old.schedule) false
+            result self.old.write_faults self.new.write_faults }
         ensures all { IfOk result (λ count. count ≡ length piece.now) }
         ensures exact { self.new ≡ record self.old {
-            meanings = if is_ok result then with_printed self.old.meanings piece.now else self.old.meanings;
-            write_faults = self.new.write_faults;
-            schedule = after_call WorldCall.Print self.old.schedule;
+          meanings = if is_ok result then with_printed self.old.meanings piece.now else self.old.meanings;
+          write_faults = self.new.write_faults;
+          schedule = after_call WorldCall.Print self.old.schedule;
         } }
     {
         if self.schedule.pass(WorldCall::Print) || self.printed.extend_from_slice(piece).is_err() {
-            self.write_faults = self.write_faults.saturating_add(1);
-            return Err(Failed);
+            return Err(raise(&mut self.write_faults));
         }
         Ok(piece.len())
     }
 
     fn complain(&mut self, piece: &[u8]) -> Result<usize, Failed>
-        ensures ends { Ends (is_due WorldCall.Complain self.old.schedule) false result self.old.say_faults self.new.say_faults }
+        ensures ends { Ends (is_due WorldCall.Complain self.old.schedule) false
+            result self.old.say_faults self.new.say_faults }
         ensures all { IfOk result (λ count. count ≡ length piece.now) }
         ensures exact { self.new ≡ record self.old {
-            meanings = if is_ok result then with_complained self.old.meanings piece.now else self.old.meanings;
-            say_faults = self.new.say_faults;
-            schedule = after_call WorldCall.Complain self.old.schedule;
+          meanings = if is_ok result then with_complained self.old.meanings piece.now else self.old.meanings;
+          say_faults = self.new.say_faults;
+          schedule = after_call WorldCall.Complain self.old.schedule;
         } }
     {
-        if self.schedule.pass(WorldCall::Complain) || self.complained.extend_from_slice(piece).is_err() {
-            self.say_faults = self.say_faults.saturating_add(1);
-            return Err(Failed);
+        if self.schedule.pass(WorldCall::Complain)
+            || self.complained.extend_from_slice(piece).is_err()
+        {
+            return Err(raise(&mut self.say_faults));
         }
         Ok(piece.len())
     }
+}
+
+fn raise(count: &mut u64) -> Failed
+    ensures { count.new ≡ raised count.old }
+{
+    *count = count.saturating_add(1);
+    Failed
 }
 
 // Makes the named file empty, and gives a copy of its name.

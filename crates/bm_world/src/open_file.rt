@@ -29,7 +29,7 @@ impl OpenFile {
     /// Moves the next bytes into the front of `into`, as many as there are and as it takes.
     pub fn read(&mut self, into: &mut [u8]) -> usize
         ensures count { result ≡ min (length into.old) (length self.old) }
-        ensures came { take result into.new ≡ take result self.old }
+        ensures came { into.new ≡ take result self.old ++ drop result into.old }
         ensures left { self.new ≡ drop result self.old }
     {
         let left = &self.bytes[self.at..];
