@@ -4,3 +4,4 @@ pub mod Reading
 pub mod FileTable
 pub mod Schedule
 pub mod MemWorld
+pub mod MemCode

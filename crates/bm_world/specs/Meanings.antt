@@ -1,4 +1,4 @@
--- What a world holds: its files, what is left to read, the file that is being made, and what was said.
+-- What a world holds: its files, what is left to read, the file that is being made, what was said.
 use Rattle.std.specs.Prelude.{ℕ, List, [], ◌++◌, Option, None, Some, unwrap_or}
 use Rattle.std.specs.Option.{option_map_or}
 use Rattle.std.specs.Ordering.{nat_cmp}
@@ -36,11 +36,13 @@ with_begun m name = record m { files = insert m.files name []; made = Some name 
 
 -- these bytes at the end of the named file, where it is there
 abbrev pub append_to : Files → List ℕ → List ℕ → Files
-append_to files name bytes = option_map_or (λ (old : List ℕ). insert files name (old ++ bytes)) (get files name) files
+append_to files name bytes =
+    option_map_or (λ (old : List ℕ). insert files name (old ++ bytes)) (get files name) files
 
 -- these bytes at the end of the file that is being made
 abbrev pub with_written : Meanings → List ℕ → Meanings
-with_written m bytes = record m { files = option_map_or (λ (name : List ℕ). append_to m.files name bytes) m.made m.files }
+with_written m bytes =
+    record m { files = option_map_or (λ (name : List ℕ). append_to m.files name bytes) m.made m.files }
 
 -- these bytes printed after the others
 abbrev pub with_printed : Meanings → List ℕ → Meanings

@@ -1,5 +1,5 @@
--- Which calls of a world in memory are to fail: the kind of the call, and which call of that kind it is
--- from now on, counted from 1.
+-- Which calls of a world in memory are to fail: the kind of the call, and which call of that kind
+-- it is from now on, counted from 1.
 use Rattle.std.specs.Prelude.{ℕ, ◌-◌, Bool, ◌&&◌, ◌==◌, if◌then◌else◌, List, map}
 use Rattle.std.specs.List.{list_any}
 use denote.Enum.Bare.{sameb}

@@ -14,7 +14,8 @@ abbrev pub Rose : ℕ → ℕ → Type 0
 Rose before now = min (before + 1) (2 ^ 64 - 1) ≤ now
 
 -- The count doesn't fall, and a call that fails raised it, or its case was told and is a failure.
-pub record HasCause {T : Type 0} (before now : ℕ) (told : Option Meanings) (IsFailure : Meanings → Type 0) (result : Result T Failed) : Type 0 where
+pub record HasCause {T : Type 0} (before now : ℕ)
+    (told : Option Meanings) (IsFailure : Meanings → Type 0) (result : Result T Failed) : Type 0 where
   pub later : before ≤ now
   pub failed : OnErr result (Rose before now ⊎ IsSomeAnd told IsFailure)
 

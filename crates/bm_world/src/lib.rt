@@ -1,6 +1,6 @@
-//! The outside of the program as a trait: files that are read and made, what is printed, and what is
-//! complained. A contract over any `World` says which bytes came from a file and which went out, where
-//! the world tells its content, and what shows that a call failed, where it doesn't.
+//! The outside of the program as a trait: files that are read and made, what is printed, and what
+//! is complained. A contract over any `World` says which bytes came from a file and which went out,
+//! where the world tells its content, and what shows that a call failed, where it doesn't.
 #![tactic(auto)]
 
 mod file_table;

@@ -32,7 +32,8 @@ pub struct MemWorld {
 impl Model for MemWorld {
     ghost use Rattle.std.specs.Prelude.{string_bytes};
     ghost use Rattle.std.specs.Option.{option_map};
-    ghost use Rattle.bm_world.specs.MemWorld.{MemState, state_code};
+    ghost use Rattle.bm_world.specs.MemWorld.{MemState};
+    ghost use Rattle.bm_world.specs.MemCode.{state_code};
 
     ghost Value = { MemState };
 
@@ -56,7 +57,13 @@ impl Model for MemWorld {
 impl MemWorld {
     /// A world with no files, nothing open, no file being made, nothing said and no faults.
     pub fn new(alloc: Global) -> Self
-        ensures { result ≡ record { meanings = nothing_yet; read_faults = 0; write_faults = 0; say_faults = 0; schedule = [] } }
+        ensures { result ≡ record {
+          meanings = nothing_yet;
+          read_faults = 0;
+          write_faults = 0;
+          say_faults = 0;
+          schedule = [];
+        } }
     {
         MemWorld {
             alloc,
@@ -80,10 +87,11 @@ impl MemWorld {
         self.files.put(name, bytes)
     }
 
-    /// From now on the `k`-th call of this kind fails, counted from 1: it takes no bytes and raises its count.
-    /// What was scheduled before stays so.
+    /// From now on the `k`-th call of this kind fails, counted from 1: it takes no bytes and raises
+    /// its count. What was scheduled before stays so.
     pub fn fail_at(&mut self, call: WorldCall, k: u64) -> Result<(), AllocError>
-        ensures ok { OnOk result (self.new ≡ record self.old { schedule = self.old.schedule ++ (call, k) ∷ [] }) }
+        ensures ok { OnOk result (self.new ≡
+            record self.old { schedule = self.old.schedule ++ (call, k) ∷ [] }) }
         ensures err { OnErr result (self.new ≡ self.old) }
     {
         self.schedule.add(call, k)
@@ -108,7 +116,8 @@ impl MemWorld {
         self.complained.as_slice()
     }
 
-    /// How many calls failed, of `open` and `read`, of `create`, `write`, `close` and `print`, and of `complain`.
+    /// The three counts: of `open` and `read`, of `create`, `write`, `close` and `print`, and of
+    /// `complain`.
     pub fn faults(&self) -> (u64, u64, u64)
         ensures { result ≡ (self.now.read_faults, self.now.write_faults, self.now.say_faults) }
     {
@@ -126,10 +135,12 @@ impl World for MemWorld {
     ghost say_faults = { λ w. w.say_faults };
 
     fn open(&mut self, name: &str) -> Result<(), Failed>
-        ensures ends { Ends (is_due WorldCall.Open self.old.schedule) (is_none (file_at self.old.meanings name.now))
-            result self.old.read_faults self.new.read_faults }
+        ensures ends { Ends (is_due WorldCall.Open self.old.schedule)
+            (is_none (file_at self.old.meanings name.now)) result self.old.read_faults self.new.read_faults }
         ensures exact { self.new ≡ record self.old {
-          meanings = record self.old.meanings { rest = if is_ok result then file_at self.old.meanings name.now else None };
+          meanings = record self.old.meanings {
+            rest = if is_ok result then file_at self.old.meanings name.now else None;
+          };
           read_faults = self.new.read_faults;
           schedule = after_call WorldCall.Open self.old.schedule;
         } }
@@ -149,13 +160,18 @@ impl World for MemWorld {
     }
 
     fn read(&mut self, into: &mut [u8]) -> Result<usize, Failed>
-        ensures ends { Ends (is_due WorldCall.Read self.old.schedule) (is_none self.old.meanings.rest)
-            result self.old.read_faults self.new.read_faults }
-        ensures no_memory { is_due WorldCall.Read self.old.schedule ≡ false → IsSome self.old.meanings.rest → IsOk result }
-        ensures count { IfOk result (λ count. count ≡ min (length into.old) (length (left_to_read self.old.meanings))) }
-        ensures came { let count = result_unwrap_or result 0 in into.new ≡ take count (left_to_read self.old.meanings) ++ drop count into.old }
+        ensures ends { Ends (is_due WorldCall.Read self.old.schedule)
+            (is_none self.old.meanings.rest) result self.old.read_faults self.new.read_faults }
+        ensures no_memory { is_due WorldCall.Read self.old.schedule ≡ false
+            → IsSome self.old.meanings.rest → IsOk result }
+        ensures count { IfOk result (λ count.
+            count ≡ min (length into.old) (length (left_to_read self.old.meanings))) }
+        ensures came { let count = result_unwrap_or result 0 in
+            into.new ≡ take count (left_to_read self.old.meanings) ++ drop count into.old }
         ensures exact { self.new ≡ record self.old {
-          meanings = record self.old.meanings { rest = option_map (drop (result_unwrap_or result 0)) self.old.meanings.rest };
+          meanings = record self.old.meanings {
+            rest = option_map (drop (result_unwrap_or result 0)) self.old.meanings.rest;
+          };
           read_faults = self.new.read_faults;
           schedule = after_call WorldCall.Read self.old.schedule;
         } }
@@ -170,10 +186,12 @@ impl World for MemWorld {
     }
 
     fn create(&mut self, name: &str) -> Result<(), Failed>
-        ensures ends { Ends (is_due WorldCall.Create self.old.schedule) (is_some self.old.meanings.made)
-            result self.old.write_faults self.new.write_faults }
+        ensures ends { Ends (is_due WorldCall.Create self.old.schedule)
+            (is_some self.old.meanings.made) result self.old.write_faults self.new.write_faults }
         ensures exact { self.new ≡ record self.old {
-          meanings = if is_ok result then with_begun self.old.meanings name.now else self.old.meanings;
+          meanings = if is_ok result
+              then with_begun self.old.meanings name.now
+              else self.old.meanings;
           write_faults = self.new.write_faults;
           schedule = after_call WorldCall.Create self.old.schedule;
         } }
@@ -192,11 +210,13 @@ impl World for MemWorld {
     }
 
     fn write(&mut self, piece: &[u8]) -> Result<usize, Failed>
-        ensures ends { Ends (is_due WorldCall.Write self.old.schedule) (is_none self.old.meanings.made)
-            result self.old.write_faults self.new.write_faults }
+        ensures ends { Ends (is_due WorldCall.Write self.old.schedule)
+            (is_none self.old.meanings.made) result self.old.write_faults self.new.write_faults }
         ensures all { IfOk result (λ count. count ≡ length piece.now) }
         ensures exact { self.new ≡ record self.old {
-          meanings = if is_ok result then with_written self.old.meanings piece.now else self.old.meanings;
+          meanings = if is_ok result
+              then with_written self.old.meanings piece.now
+              else self.old.meanings;
           write_faults = self.new.write_faults;
           schedule = after_call WorldCall.Write self.old.schedule;
         } }
@@ -214,9 +234,10 @@ impl World for MemWorld {
     }
 
     fn close(&mut self) -> Result<(), Failed>
-        ensures ends { Ends (is_due WorldCall.Close self.old.schedule) (is_none self.old.meanings.made)
-            result self.old.write_faults self.new.write_faults }
-        ensures no_memory { is_due WorldCall.Close self.old.schedule ≡ false → IsSome self.old.meanings.made → IsOk result }
+        ensures ends { Ends (is_due WorldCall.Close self.old.schedule)
+            (is_none self.old.meanings.made) result self.old.write_faults self.new.write_faults }
+        ensures no_memory { is_due WorldCall.Close self.old.schedule ≡ false
+            → IsSome self.old.meanings.made → IsOk result }
         ensures exact { self.new ≡ record self.old {
           meanings = record self.old.meanings { made = None };
           write_faults = self.new.write_faults;
@@ -234,11 +255,13 @@ impl World for MemWorld {
     }
 
     fn print(&mut self, piece: &[u8]) -> Result<usize, Failed>
-        ensures ends { Ends (is_due WorldCall.Print self.old.schedule) false
-            result self.old.write_faults self.new.write_faults }
+        ensures ends { Ends (is_due WorldCall.Print self.old.schedule)
+            false result self.old.write_faults self.new.write_faults }
         ensures all { IfOk result (λ count. count ≡ length piece.now) }
         ensures exact { self.new ≡ record self.old {
-          meanings = if is_ok result then with_printed self.old.meanings piece.now else self.old.meanings;
+          meanings = if is_ok result
+              then with_printed self.old.meanings piece.now
+              else self.old.meanings;
           write_faults = self.new.write_faults;
           schedule = after_call WorldCall.Print self.old.schedule;
         } }
@@ -250,11 +273,13 @@ impl World for MemWorld {
     }
 
     fn complain(&mut self, piece: &[u8]) -> Result<usize, Failed>
-        ensures ends { Ends (is_due WorldCall.Complain self.old.schedule) false
-            result self.old.say_faults self.new.say_faults }
+        ensures ends { Ends (is_due WorldCall.Complain self.old.schedule)
+            false result self.old.say_faults self.new.say_faults }
         ensures all { IfOk result (λ count. count ≡ length piece.now) }
         ensures exact { self.new ≡ record self.old {
-          meanings = if is_ok result then with_complained self.old.meanings piece.now else self.old.meanings;
+          meanings = if is_ok result
+              then with_complained self.old.meanings piece.now
+              else self.old.meanings;
           say_faults = self.new.say_faults;
           schedule = after_call WorldCall.Complain self.old.schedule;
         } }
