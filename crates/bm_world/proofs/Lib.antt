@@ -1,3 +1,5 @@
 pub mod Steps
 pub mod Appending
 pub mod WholeFile
+pub mod FileTable
+pub mod Telling

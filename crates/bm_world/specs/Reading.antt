@@ -13,6 +13,7 @@ IsReadingOf file limit (Err Fault) = Unit {0}
 IsReadingOf file limit (Err Memory) = Unit {0}
 
 -- the answer is so of the named file, and only what is left to read has changed
-pub record ReadsAll (name : List ℕ) (limit : ℕ) (result : Result (Vec ℕ Global) ReadEnd) (m n : Meanings) : Type 0 where
+pub record ReadsAll (name : List ℕ) (limit : ℕ) (result : Result (Vec ℕ Global) ReadEnd)
+    (m n : Meanings) : Type 0 where
   pub answer : IsReadingOf (file_at m name) limit result
   pub only_rest : n ≡ record m { rest = n.rest }

@@ -1,8 +1,7 @@
 -- What each call of a world moves, and what shows that it failed.
 use Rattle.std.specs.Prelude.{◌≡◌, ◌⊎◌, ℕ, ◌+◌, ◌-◌, ◌^◌, ◌<◌, ◌≤◌, min, List, [], ◌++◌, length, take, Option, None, Some, Result, Ok, Err, IsSome, IsSomeAnd, OnOk, OnErr}
-use Rattle.std.specs.FinMap.{insert}
 use Rattle.bm_world.specs.declared.world.Failed.{Failed}
-use Rattle.bm_world.specs.Meanings.{Meanings, file_at, with_written}
+use Rattle.bm_world.specs.Meanings.{Meanings, file_at, with_begun, with_written}
 
 -- R holds between the entry of a call and its exit, where the world tells its meanings at both.
 -- A world that tells nothing doesn't tell again.
@@ -15,7 +14,8 @@ abbrev pub Rose : ℕ → ℕ → Type 0
 Rose before now = min (before + 1) (2 ^ 64 - 1) ≤ now
 
 -- The count doesn't fall, and a call that fails raised it, or its case was told and is a failure.
-pub record HasCause {T : Type 0} (before now : ℕ) (told : Option Meanings) (IsFailure : Meanings → Type 0) (result : Result T Failed) : Type 0 where
+pub record HasCause {T : Type 0} (before now : ℕ)
+    (told : Option Meanings) (IsFailure : Meanings → Type 0) (result : Result T Failed) : Type 0 where
   pub later : before ≤ now
   pub failed : OnErr result (Rose before now ⊎ IsSomeAnd told IsFailure)
 
@@ -59,7 +59,7 @@ Reads buffer (Err _) m n = n ≡ m
 
 -- the named file is empty, and is being made; a failure leaves all as it was
 abbrev pub Creates : List ℕ → Result (Unit {0}) Failed → Meanings → Meanings → Type 0
-Creates name (Ok _) m n = NothingIsMade m × (n ≡ record m { files = insert m.files name []; made = Some name })
+Creates name (Ok _) m n = NothingIsMade m × (n ≡ with_begun m name)
 Creates name (Err _) m n = n ≡ m
 
 -- some front of these bytes is appended, by this change

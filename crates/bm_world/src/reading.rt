@@ -36,8 +36,9 @@ impl From<AllocError> for ReadEnd {
 
 const BUFFER: usize = 65_536;
 
-/// Opens the named file and reads it to its end, if it has at most `limit` bytes. No more is read
-/// once more than `limit` bytes have come.
+/// Opens the named file and reads it to its end, if it has at most `limit` bytes. A longer file
+/// whose calls succeed is `TooLong`, or `Memory`. No more is read once more than `limit` bytes have
+/// come.
 pub fn read_all<W: World>(
     alloc: Global,
     world: &mut W,
@@ -46,7 +47,8 @@ pub fn read_all<W: World>(
 ) -> Result<Vec<u8>, ReadEnd>
     ensures step { Step (W.told world.old) (W.told world.new) (ReadsAll name.now limit result) }
     ensures within { IfOk result (λ bytes. vec_len bytes ≤ limit) }
-    ensures fault { IsErrOf result ReadEnd.Fault → Rose (W.read_faults world.old) (W.read_faults world.new) ⊎ IsSomeAnd (W.told world.old) (IsMissing name.now) }
+    ensures fault { IsErrOf result ReadEnd.Fault → Rose (W.read_faults world.old) (W.read_faults world.new)
+        ⊎ IsSomeAnd (W.told world.old) (IsMissing name.now) }
     ensures later { W.read_faults world.old ≤ W.read_faults world.new }
     ensures write_faults_stay { W.write_faults world.new ≡ W.write_faults world.old }
     ensures say_faults_stay { W.say_faults world.new ≡ W.say_faults world.old }

@@ -7,12 +7,12 @@ ghost use Rattle.bm_world.specs.World.{Step, HasCause, RisesOnErr, IsMissing, No
 #[derive(Clone, Copy, Debug, PartialEq, Eq)]
 pub struct Failed;
 
-/// One opened file, one file that is being made, and two streams that grow. Each call has one of three
-/// counts of failures as its own, leaves the other two as they were, and raises its own where it fails,
-/// unless the failure can be told from the meanings.
+/// One opened file, one file that is being made, and two streams that grow. Each call has one of
+/// three counts of failures as its own, and leaves the other two as they were. It answers `Failed`
+/// only where it raises its count, or where its case is told and is a failure.
 pub trait World {
-    /// The meanings, if this world tells them. Clauses on them hold where they are told at the entry
-    /// and at the exit of the call.
+    /// The meanings, if this world tells them. Clauses on them hold where they are told at the
+    /// entry and at the exit of the call.
     ghost told: { Self → Option Meanings };
 
     /// How many calls of `open` and `read` failed.
@@ -24,59 +24,69 @@ pub trait World {
     /// How many calls of `complain` failed.
     ghost say_faults: { Self → ℕ };
 
-    /// Opens the named file as it stands now, in place of the one that was open. A missing file is a failure.
+    /// Opens the named file as it stands now, in place of the one that was open. A missing file is
+    /// a failure. A failed call leaves nothing open.
     fn open(&mut self, name: &str) -> Result<(), Failed>
         ensures step { Step (told self.old) (told self.new) (Opens name.now result) }
-        ensures cause { HasCause (read_faults self.old) (read_faults self.new) (told self.old) (IsMissing name.now) result }
+        ensures cause { HasCause (read_faults self.old) (read_faults self.new)
+            (told self.old) (IsMissing name.now) result }
         ensures write_faults_stay { write_faults self.new ≡ write_faults self.old }
         ensures say_faults_stay { say_faults self.new ≡ say_faults self.old };
 
-    /// Moves the next bytes of the opened file into the front of `into`, and answers how many. A read
-    /// where nothing is open is a failure.
+    /// Moves the next bytes of the opened file into the front of `into`, and answers how many: 0 at
+    /// the end alone, unless `into` is empty. It is a failure where nothing is open.
     fn read(&mut self, into: &mut [u8]) -> Result<usize, Failed>
         ensures step { Step (told self.old) (told self.new) (Reads into.new result) }
         ensures within { IfOk result (λ count. count ≤ length into.old) }
-        ensures cause { HasCause (read_faults self.old) (read_faults self.new) (told self.old) NothingIsOpen result }
+        ensures cause { HasCause (read_faults self.old) (read_faults self.new)
+            (told self.old) NothingIsOpen result }
         ensures write_faults_stay { write_faults self.new ≡ write_faults self.old }
         ensures say_faults_stay { say_faults self.new ≡ say_faults self.old };
 
-    /// Begins to make the named file, which is empty then, whether it was there or not. It is a failure
-    /// where a file is being made.
+    /// Begins to make the named file, which is empty then, whether it was there or not. It is a
+    /// failure where a file is being made. A failed call changes nothing.
     fn create(&mut self, name: &str) -> Result<(), Failed>
         ensures step { Step (told self.old) (told self.new) (Creates name.now result) }
-        ensures cause { HasCause (write_faults self.old) (write_faults self.new) (told self.old) IsBeingMade result }
+        ensures cause { HasCause (write_faults self.old) (write_faults self.new)
+            (told self.old) IsBeingMade result }
         ensures read_faults_stay { read_faults self.new ≡ read_faults self.old }
         ensures say_faults_stay { say_faults self.new ≡ say_faults self.old };
 
-    /// Appends the first bytes of `piece` to the file that is being made, and answers how many. It is a
-    /// failure where no file is being made.
+    /// Appends the first bytes of `piece` to the file that is being made, and answers how many. It
+    /// is a failure where no file is being made. A failed call appended some front of `piece`.
     fn write(&mut self, piece: &[u8]) -> Result<usize, Failed>
         ensures step { Step (told self.old) (told self.new) (Writes piece.now result) }
         ensures within { IfOk result (λ count. count ≤ length piece.now) }
         ensures some { 0 < length piece.now → IfOk result (λ count. 0 < count) }
-        ensures cause { HasCause (write_faults self.old) (write_faults self.new) (told self.old) NothingIsMade result }
+        ensures cause { HasCause (write_faults self.old) (write_faults self.new)
+            (told self.old) NothingIsMade result }
         ensures read_faults_stay { read_faults self.new ≡ read_faults self.old }
         ensures say_faults_stay { say_faults self.new ≡ say_faults self.old };
 
-    /// Ends the file that is being made. It is a failure where none is.
+    /// Ends the file that is being made, also where it fails. It is a failure where none is.
     fn close(&mut self) -> Result<(), Failed>
         ensures step { Step (told self.old) (told self.new) (Closes result) }
-        ensures cause { HasCause (write_faults self.old) (write_faults self.new) (told self.old) NothingIsMade result }
+        ensures cause { HasCause (write_faults self.old) (write_faults self.new)
+            (told self.old) NothingIsMade result }
         ensures read_faults_stay { read_faults self.new ≡ read_faults self.old }
         ensures say_faults_stay { say_faults self.new ≡ say_faults self.old };
 
-    /// Prints the first bytes of `piece`, and answers how many.
+    /// Prints the first bytes of `piece`, and answers how many. A failed call printed some front of
+    /// `piece`.
     fn print(&mut self, piece: &[u8]) -> Result<usize, Failed>
-        ensures step { Step (told self.old) (told self.new) (AppendsFront with_printed piece.now result) }
+        ensures step { Step (told self.old) (told self.new)
+            (AppendsFront with_printed piece.now result) }
         ensures within { IfOk result (λ count. count ≤ length piece.now) }
         ensures some { 0 < length piece.now → IfOk result (λ count. 0 < count) }
         ensures cause { RisesOnErr (write_faults self.old) (write_faults self.new) result }
         ensures read_faults_stay { read_faults self.new ≡ read_faults self.old }
         ensures say_faults_stay { say_faults self.new ≡ say_faults self.old };
 
-    /// Complains the first bytes of `piece`, and answers how many.
+    /// Complains the first bytes of `piece`, and answers how many. A failed call complained some
+    /// front of `piece`.
     fn complain(&mut self, piece: &[u8]) -> Result<usize, Failed>
-        ensures step { Step (told self.old) (told self.new) (AppendsFront with_complained piece.now result) }
+        ensures step { Step (told self.old) (told self.new)
+            (AppendsFront with_complained piece.now result) }
         ensures within { IfOk result (λ count. count ≤ length piece.now) }
         ensures some { 0 < length piece.now → IfOk result (λ count. 0 < count) }
         ensures cause { RisesOnErr (say_faults self.old) (say_faults self.new) result }

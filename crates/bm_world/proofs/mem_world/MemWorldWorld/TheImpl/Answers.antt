@@ -1,0 +1,23 @@
+use Rattle.std.proofs.Common.{rules, ap}
+use Rattle.bm_world.specs.MemWorld.{MemState}
+use Rattle.bm_world.proofs.Telling.{reads_told, writes_told}
+use Rattle.bm_world.proofs.mem_world.MemWorldWorld.TheImpl.Goals as goal
+
+pub read-tells : goal.read-tells
+read-tells c = record {
+  step = reads_told _ c.args.into.now c.new.into.now c.result _ _ c.args.self.now.meanings c.new.self.now.meanings c.ensures.ends c.ensures.count c.ensures.came (ap (λ (w : MemState). w.meanings) c.ensures.exact);
+  within = search rules;
+  cause = search rules;
+  write_faults_stay = ap (λ (w : MemState). w.write_faults) c.ensures.exact;
+  say_faults_stay = ap (λ (w : MemState). w.say_faults) c.ensures.exact;
+}
+
+pub write-tells : goal.write-tells
+write-tells c = record {
+  step = writes_told _ c.args.piece.now c.result _ _ c.args.self.now.meanings c.new.self.now.meanings c.ensures.ends c.ensures.all (ap (λ (w : MemState). w.meanings) c.ensures.exact);
+  within = search rules;
+  some = search rules;
+  cause = search rules;
+  read_faults_stay = ap (λ (w : MemState). w.read_faults) c.ensures.exact;
+  say_faults_stay = ap (λ (w : MemState). w.say_faults) c.ensures.exact;
+}

@@ -1,0 +1,312 @@
+// A world in memory, which tells all its meanings.
+ghost use Rattle.std.specs.Prelude.{◌≡◌, ◌++◌, [], ◌∷◌, None, Some, IfOk, OnOk, OnErr, IsSome, IsOk, string_bytes, min, length, take, drop, is_some, is_none, is_ok, false, if◌then◌else◌};
+ghost use Rattle.std.specs.Option.{option_copied, option_map};
+ghost use Rattle.std.specs.Result.{result_unwrap_or};
+ghost use Rattle.std.specs.FinMap as map;
+ghost use Rattle.bm_world.specs.Meanings.{nothing_yet, file_at, left_to_read, with_begun, with_written, with_printed, with_complained};
+ghost use Rattle.bm_world.specs.Schedule.{is_due, after_call};
+ghost use Rattle.bm_world.specs.MemWorld.{with_file, raised, Ends};
+
+use crate::file_table::FileTable;
+use crate::open_file::OpenFile;
+use crate::schedule::Schedule;
+use crate::{Failed, World, WorldCall};
+use std::alloc::{AllocError, Global};
+use std::marker::Model;
+
+/// A world in memory.
+#[derive(Drop)]
+pub struct MemWorld {
+    alloc: Global,
+    files: FileTable,
+    open_file: Option<OpenFile>,
+    made: Option<String>,
+    printed: Vec<u8>,
+    complained: Vec<u8>,
+    read_faults: u64,
+    write_faults: u64,
+    say_faults: u64,
+    schedule: Schedule,
+}
+
+impl Model for MemWorld {
+    ghost use Rattle.std.specs.Prelude.{string_bytes};
+    ghost use Rattle.std.specs.Option.{option_map};
+    ghost use Rattle.bm_world.specs.MemWorld.{MemState};
+    ghost use Rattle.bm_world.specs.MemCode.{state_code};
+
+    ghost Value = { MemState };
+
+    ghost coded = { state_code };
+
+    ghost view = { λ w. record {
+      meanings = record {
+        files = w.files;
+        rest = w.open_file;
+        made = option_map string_bytes w.made;
+        printed = w.printed.items;
+        complained = w.complained.items;
+      };
+      read_faults = w.read_faults;
+      write_faults = w.write_faults;
+      say_faults = w.say_faults;
+      schedule = w.schedule;
+    } };
+}
+
+impl MemWorld {
+    /// A world with no files, nothing open, no file being made, nothing said and no faults.
+    pub fn new(alloc: Global) -> Self
+        ensures { result ≡ record {
+          meanings = nothing_yet;
+          read_faults = 0;
+          write_faults = 0;
+          say_faults = 0;
+          schedule = [];
+        } }
+    {
+        MemWorld {
+            alloc,
+            files: FileTable::new(alloc),
+            open_file: None,
+            made: None,
+            printed: Vec::new(alloc),
+            complained: Vec::new(alloc),
+            read_faults: 0,
+            write_faults: 0,
+            say_faults: 0,
+            schedule: Schedule::new(alloc),
+        }
+    }
+
+    /// Sets a file, whether it was there or not.
+    pub fn put_file(&mut self, name: &str, bytes: &[u8]) -> Result<(), AllocError>
+        ensures ok { OnOk result (self.new ≡ with_file self.old name.now bytes.now) }
+        ensures err { OnErr result (self.new ≡ self.old) }
+    {
+        self.files.put(name, bytes)
+    }
+
+    /// From now on the `k`-th call of this kind fails, counted from 1: it takes no bytes and raises
+    /// its count. What was scheduled before stays so.
+    pub fn fail_at(&mut self, call: WorldCall, k: u64) -> Result<(), AllocError>
+        ensures ok { OnOk result (self.new ≡
+            record self.old { schedule = self.old.schedule ++ (call, k) ∷ [] }) }
+        ensures err { OnErr result (self.new ≡ self.old) }
+    {
+        self.schedule.add(call, k)
+    }
+
+    /// The bytes of the named file, and `None` exactly where there is no file of this name.
+    pub fn file(&self, name: &str) -> Option<&[u8]>
+        ensures { option_copied result ≡ file_at self.now.meanings name.now }
+    {
+        self.files.get(name)
+    }
+
+    pub fn printed(&self) -> &[u8]
+        ensures { result.now ≡ self.now.meanings.printed }
+    {
+        self.printed.as_slice()
+    }
+
+    pub fn complained(&self) -> &[u8]
+        ensures { result.now ≡ self.now.meanings.complained }
+    {
+        self.complained.as_slice()
+    }
+
+    /// The three counts: of `open` and `read`, of `create`, `write`, `close` and `print`, and of
+    /// `complain`.
+    pub fn faults(&self) -> (u64, u64, u64)
+        ensures { result ≡ (self.now.read_faults, self.now.write_faults, self.now.say_faults) }
+    {
+        (self.read_faults, self.write_faults, self.say_faults)
+    }
+}
+
+impl World for MemWorld {
+    ghost told = { λ w. Some w.meanings };
+
+    ghost read_faults = { λ w. w.read_faults };
+
+    ghost write_faults = { λ w. w.write_faults };
+
+    ghost say_faults = { λ w. w.say_faults };
+
+    fn open(&mut self, name: &str) -> Result<(), Failed>
+        ensures ends { Ends (is_due WorldCall.Open self.old.schedule)
+            (is_none (file_at self.old.meanings name.now)) result self.old.read_faults self.new.read_faults }
+        ensures exact { self.new ≡ record self.old {
+          meanings = record self.old.meanings {
+            rest = if is_ok result then file_at self.old.meanings name.now else None;
+          };
+          read_faults = self.new.read_faults;
+          schedule = after_call WorldCall.Open self.old.schedule;
+        } }
+    {
+        self.open_file = None;
+        if self.schedule.pass(WorldCall::Open) {
+            return Err(raise(&mut self.read_faults));
+        }
+        let Some(bytes) = self.files.get(name) else {
+            return Err(Failed);
+        };
+        let Ok(copy) = Vec::from_slice(self.alloc, bytes) else {
+            return Err(raise(&mut self.read_faults));
+        };
+        self.open_file = Some(OpenFile::new(copy));
+        Ok(())
+    }
+
+    fn read(&mut self, into: &mut [u8]) -> Result<usize, Failed>
+        ensures ends { Ends (is_due WorldCall.Read self.old.schedule)
+            (is_none self.old.meanings.rest) result self.old.read_faults self.new.read_faults }
+        ensures no_memory { is_due WorldCall.Read self.old.schedule ≡ false
+            → IsSome self.old.meanings.rest → IsOk result }
+        ensures count { IfOk result (λ count.
+            count ≡ min (length into.old) (length (left_to_read self.old.meanings))) }
+        ensures came { let count = result_unwrap_or result 0 in
+            into.new ≡ take count (left_to_read self.old.meanings) ++ drop count into.old }
+        ensures exact { self.new ≡ record self.old {
+          meanings = record self.old.meanings {
+            rest = option_map (drop (result_unwrap_or result 0)) self.old.meanings.rest;
+          };
+          read_faults = self.new.read_faults;
+          schedule = after_call WorldCall.Read self.old.schedule;
+        } }
+    {
+        if self.schedule.pass(WorldCall::Read) {
+            return Err(raise(&mut self.read_faults));
+        }
+        match &mut self.open_file {
+            Some(file) => Ok(file.read(into)),
+            None => Err(Failed),
+        }
+    }
+
+    fn create(&mut self, name: &str) -> Result<(), Failed>
+        ensures ends { Ends (is_due WorldCall.Create self.old.schedule)
+            (is_some self.old.meanings.made) result self.old.write_faults self.new.write_faults }
+        ensures exact { self.new ≡ record self.old {
+          meanings = if is_ok result
+              then with_begun self.old.meanings name.now
+              else self.old.meanings;
+          write_faults = self.new.write_faults;
+          schedule = after_call WorldCall.Create self.old.schedule;
+        } }
+    {
+        if self.schedule.pass(WorldCall::Create) {
+            return Err(raise(&mut self.write_faults));
+        }
+        if self.made.is_some() {
+            return Err(Failed);
+        }
+        let Ok(made) = begin(self.alloc, &mut self.files, name) else {
+            return Err(raise(&mut self.write_faults));
+        };
+        self.made = Some(made);
+        Ok(())
+    }
+
+    fn write(&mut self, piece: &[u8]) -> Result<usize, Failed>
+        ensures ends { Ends (is_due WorldCall.Write self.old.schedule)
+            (is_none self.old.meanings.made) result self.old.write_faults self.new.write_faults }
+        ensures all { IfOk result (λ count. count ≡ length piece.now) }
+        ensures exact { self.new ≡ record self.old {
+          meanings = if is_ok result
+              then with_written self.old.meanings piece.now
+              else self.old.meanings;
+          write_faults = self.new.write_faults;
+          schedule = after_call WorldCall.Write self.old.schedule;
+        } }
+    {
+        if self.schedule.pass(WorldCall::Write) {
+            return Err(raise(&mut self.write_faults));
+        }
+        let Some(name) = &self.made else {
+            return Err(Failed);
+        };
+        if self.files.append(name.as_str(), piece).is_err() {
+            return Err(raise(&mut self.write_faults));
+        }
+        Ok(piece.len())
+    }
+
+    fn close(&mut self) -> Result<(), Failed>
+        ensures ends { Ends (is_due WorldCall.Close self.old.schedule)
+            (is_none self.old.meanings.made) result self.old.write_faults self.new.write_faults }
+        ensures no_memory { is_due WorldCall.Close self.old.schedule ≡ false
+            → IsSome self.old.meanings.made → IsOk result }
+        ensures exact { self.new ≡ record self.old {
+          meanings = record self.old.meanings { made = None };
+          write_faults = self.new.write_faults;
+          schedule = after_call WorldCall.Close self.old.schedule;
+        } }
+    {
+        let made = self.made.take();
+        if self.schedule.pass(WorldCall::Close) {
+            return Err(raise(&mut self.write_faults));
+        }
+        if made.is_none() {
+            return Err(Failed);
+        }
+        Ok(())
+    }
+
+    fn print(&mut self, piece: &[u8]) -> Result<usize, Failed>
+        ensures ends { Ends (is_due WorldCall.Print self.old.schedule)
+            false result self.old.write_faults self.new.write_faults }
+        ensures all { IfOk result (λ count. count ≡ length piece.now) }
+        ensures exact { self.new ≡ record self.old {
+          meanings = if is_ok result
+              then with_printed self.old.meanings piece.now
+              else self.old.meanings;
+          write_faults = self.new.write_faults;
+          schedule = after_call WorldCall.Print self.old.schedule;
+        } }
+    {
+        if self.schedule.pass(WorldCall::Print) || self.printed.extend_from_slice(piece).is_err() {
+            return Err(raise(&mut self.write_faults));
+        }
+        Ok(piece.len())
+    }
+
+    fn complain(&mut self, piece: &[u8]) -> Result<usize, Failed>
+        ensures ends { Ends (is_due WorldCall.Complain self.old.schedule)
+            false result self.old.say_faults self.new.say_faults }
+        ensures all { IfOk result (λ count. count ≡ length piece.now) }
+        ensures exact { self.new ≡ record self.old {
+          meanings = if is_ok result
+              then with_complained self.old.meanings piece.now
+              else self.old.meanings;
+          say_faults = self.new.say_faults;
+          schedule = after_call WorldCall.Complain self.old.schedule;
+        } }
+    {
+        if self.schedule.pass(WorldCall::Complain)
+            || self.complained.extend_from_slice(piece).is_err()
+        {
+            return Err(raise(&mut self.say_faults));
+        }
+        Ok(piece.len())
+    }
+}
+
+fn raise(count: &mut u64) -> Failed
+    ensures { count.new ≡ raised count.old }
+{
+    *count = count.saturating_add(1);
+    Failed
+}
+
+// Makes the named file empty, and gives a copy of its name.
+fn begin(alloc: Global, files: &mut FileTable, name: &str) -> Result<String, AllocError>
+    ensures name { IfOk result (λ made. string_bytes made ≡ name.now) }
+    ensures ok { OnOk result (files.new ≡ map.insert files.old name.now []) }
+    ensures err { OnErr result (files.new ≡ files.old) }
+{
+    let made = String::from_str(alloc, name)?;
+    files.put(name, &[])?;
+    Ok(made)
+}
