@@ -6,3 +6,5 @@ pub mod Parts
 pub mod PlainLines
 pub mod PlainQueries
 pub mod PlainVars
+pub mod Promises
+pub mod StepsDone

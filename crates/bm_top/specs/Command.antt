@@ -1,7 +1,6 @@
 -- The commands of the program, as words.
 use Rattle.std.specs.Prelude.{ℕ, ◌&&◌, if◌then◌else◌, List, [], ◌∷◌, Option, Some, None}
 use Rattle.bm_top.specs.declared.command.Command.{Command}
-use Rattle.bm_top.specs.declared.command.Command.TheVariants as commands
 use Rattle.bm_top.specs.declared.command.TheConstants.{ASK, TSV}
 use Rattle.bm_top.specs.PlainQuery.{is_text}
 
@@ -17,4 +16,4 @@ request_of words = None
 
 -- the request that the code's command is
 abbrev pub requested : Command → Request
-requested (commands.Ask file query) = ask file.now query.now
+requested command = ask command.data.now command.query.now

@@ -1,7 +1,10 @@
 -- How a command ended, and what is known then.
-use Rattle.std.specs.Prelude.{◌≡◌, ◌⊎◌, ℕ, List, [], ◌∷◌, take, Option, Vec, Result, Ok, Err, IsSomeAnd}
-use Rattle.std.specs.declared.alloc.Global.{Global}
-use Rattle.bm_world.specs.Meanings.{Meanings, with_printed}
+use Rattle.std.specs.Prelude.{◌≡◌, ◌⊎◌, ℕ, ◌≤◌, List, [], ◌∷◌, take, Option, Result, Ok, Err, IsSomeAnd}
+use Rattle.std.specs.Borrow.{Bor}
+use Rattle.bm_world.specs.Meanings.{Files, Meanings, with_printed}
+use Rattle.bm_world.specs.declared.world.Failed.{Failed}
+use Rattle.bm_world.specs.declared.reading.ReadEnd.{ReadEnd}
+use Rattle.bm_world.specs.declared.reading.ReadEnd.TheVariants as read_ends
 use Rattle.bm_world.specs.World.{Rose}
 use Rattle.bm_top.specs.declared.ending.Ending.{Ending}
 use Rattle.bm_top.specs.declared.ending.Ending.TheVariants as ends
@@ -47,3 +50,32 @@ EndsSo verdict ends.Usage m n = (verdict ≡ refused 1 USAGE.now) × ReadOnly m 
 EndsSo verdict (ends.BadLine line) m n = (verdict ≡ refused 2 (bad_line_line line)) × ReadOnly m n
 EndsSo verdict ends.NotPlain m n = (verdict ≡ refused 3 NOT_PLAIN.now) × ReadOnly m n
 EndsSo verdict (ends.TooLong name limit) m n = (verdict ≡ refused 8 (limit_line name.now limit)) × ReadOnly m n
+
+-- what shows that a call failed, where one did
+abbrev pub Reason : (Files → Verdict) → Option Meanings → ℕ → ℕ → ℕ → ℕ → Ending → Type 0
+Reason verdict told reads reads_now writes writes_now (ends.ReadFault name) =
+    Rose reads reads_now ⊎ IsSomeAnd told (λ m. verdict m.files ≡ refused 5 (read_fault_line name.now))
+Reason verdict told reads reads_now writes writes_now ends.WriteFault = Rose writes writes_now
+Reason verdict told reads reads_now writes writes_now ends.Done = Unit {0}
+Reason verdict told reads reads_now writes writes_now ends.Usage = Unit {0}
+Reason verdict told reads reads_now writes writes_now (ends.BadLine line) = Unit {0}
+Reason verdict told reads reads_now writes writes_now ends.NotPlain = Unit {0}
+Reason verdict told reads reads_now writes writes_now ends.Memory = Unit {0}
+Reason verdict told reads reads_now writes writes_now (ends.TooLong name limit) = Unit {0}
+
+-- the counts have not fallen, and a fault has its reason
+pub record HasReason (verdict : Files → Verdict) (told : Option Meanings) (reads reads_now writes writes_now : ℕ) (ending : Ending) : Type 0 where
+  pub reads_later : reads ≤ reads_now
+  pub writes_later : writes ≤ writes_now
+  pub reason : Reason verdict told reads reads_now writes writes_now ending
+
+-- How a command ends after an outside call.
+
+abbrev pub after_printing : Result (Unit {0}) Failed → Ending
+after_printing (Ok _) = ends.Done
+after_printing (Err _) = ends.WriteFault
+
+abbrev pub after_reading : ReadEnd → Bor (List ℕ) → ℕ → Ending
+after_reading read_ends.Fault name limit = ends.ReadFault name
+after_reading read_ends.TooLong name limit = ends.TooLong name limit
+after_reading read_ends.Memory name limit = ends.Memory

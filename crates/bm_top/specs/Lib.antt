@@ -6,5 +6,6 @@ pub mod PlainData
 pub mod PlainQuery
 pub mod Reading
 pub mod RowOrder
+pub mod Run
 pub mod Tsv
 pub mod Verdict

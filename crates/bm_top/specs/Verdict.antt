@@ -62,9 +62,12 @@ deciding None lines query = answering lines query
 unfoldable pub decided : List ℕ → List ℕ → Verdict
 decided bytes text = deciding (first_bad bytes) (lines_of bytes) (query_of text)
 
+-- the data has been read: the query file is read
+unfoldable pub query_verdict : Files → List ℕ → List ℕ → Verdict
+query_verdict files bytes query = reading files query MAX_QUERY_BYTES (λ text. decided bytes text)
+
 unfoldable pub request_verdict : Files → Request → Verdict
-request_verdict files (ask file query) =
-    reading files file MAX_DATA_BYTES (λ bytes. reading files query MAX_QUERY_BYTES (λ text. decided bytes text))
+request_verdict files (ask file query) = reading files file MAX_DATA_BYTES (λ bytes. query_verdict files bytes query)
 
 abbrev pub verdict_at : Files → Option Request → Verdict
 verdict_at files None = refused 1 USAGE.now

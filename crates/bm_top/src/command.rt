@@ -6,10 +6,11 @@ ghost use Rattle.bm_top.specs.Command.{request_of, requested};
 pub const ASK: &str = "ask";
 pub const TSV: &str = "tsv";
 
-/// A command, with the names of its files.
+/// The command that is built: `ask`, with the names of its two files.
 #[derive(Clone, Copy, Debug)]
-pub(crate) enum Command<'a> {
-    Ask { data: &'a str, query: &'a str },
+pub(crate) struct Command<'a> {
+    pub(crate) data: &'a str,
+    pub(crate) query: &'a str,
 }
 
 /// The command that some words are, if they are a row of the table of commands.
@@ -19,7 +20,7 @@ pub(crate) fn parse_words(words: &[String]) -> Option<Command<'_>>
     match words {
         [command, data, query, form] => {
             if command.as_str() == ASK && form.as_str() == TSV {
-                Some(Command::Ask {
+                Some(Command {
                     data: data.as_str(),
                     query: query.as_str(),
                 })

@@ -4,6 +4,7 @@
 mod answer_row;
 mod answers;
 mod command;
+mod complain;
 mod decide;
 mod ending;
 mod graph;
@@ -11,4 +12,7 @@ mod pieces;
 mod plain_data;
 mod plain_query;
 mod steps;
+mod top;
 mod tsv;
+
+pub use top::run;

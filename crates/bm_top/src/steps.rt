@@ -1,8 +1,9 @@
-ghost use Rattle.std.specs.Prelude.{◌≡◌, ◌<◌, ◌≤◌, ◌^◌, ◌⊎◌, length, IsSomeAnd};
+ghost use Rattle.std.specs.Prelude.{◌≡◌, ◌<◌, ◌≤◌, ◌^◌, ◌⊎◌, length, None};
+ghost use Rattle.std.specs.Option.{option_map};
 ghost use Rattle.bm_world.specs.World.{Step, Rose};
-ghost use Rattle.bm_top.specs.Command.{requested};
-ghost use Rattle.bm_top.specs.Ending.{EndsSo, HasReason};
-ghost use Rattle.bm_top.specs.Verdict.{decided, request_verdict};
+ghost use Rattle.bm_top.specs.Command.{ask, requested};
+ghost use Rattle.bm_top.specs.Ending.{EndsSo, HasReason, after_printing, after_reading, status_of};
+ghost use Rattle.bm_top.specs.Verdict.{decided, query_verdict, request_verdict, verdict_at};
 
 use crate::command::Command;
 use crate::decide::{Refusal, decide};
@@ -16,24 +17,35 @@ pub const MAX_DATA_BYTES: u64 = 536_870_912;
 /// The bytes that a query file may have.
 pub const MAX_QUERY_BYTES: u64 = 1_048_576;
 
-/// Does what a command asks for.
+/// Does what a command asks for, if there is one.
 pub(crate) fn perform<'a, W: World>(
     alloc: Global,
-    command: Command<'a>,
+    command: Option<Command<'a>>,
     world: &mut W,
 ) -> Ending<'a>
-    ensures step { Step (W.told world.old) (W.told world.new) (λ m n. EndsSo (request_verdict m.files (requested command.entry)) result m n) }
-    ensures reason { HasReason (λ files. request_verdict files (requested command.entry)) (W.told world.old) (W.read_faults world.old) (W.read_faults world.new) (W.write_faults world.old) (W.write_faults world.new) result }
+    ensures usage { option_map requested command.entry ≡ None → status_of result ≡ 1 }
+    ensures step { Step (W.told world.old) (W.told world.new) (λ m n.
+        EndsSo (verdict_at m.files (option_map requested command.entry)) result m n) }
+    ensures reason { HasReason (λ files. verdict_at files (option_map requested command.entry)) (W.told world.old)
+        (W.read_faults world.old) (W.read_faults world.new) (W.write_faults world.old) (W.write_faults world.new) result }
     ensures say_faults_stay { W.say_faults world.new ≡ W.say_faults world.old }
 {
     match command {
-        Command::Ask { data, query } => ask(alloc, data, query, world),
+        Some(Command { data, query }) => perform_ask(alloc, data, query, world),
+        None => Ending::Usage,
     }
 }
 
-fn ask<'a, W: World>(alloc: Global, data: &'a str, query: &'a str, world: &mut W) -> Ending<'a>
-    ensures step { Step (W.told world.old) (W.told world.new) (λ m n. EndsSo (request_verdict m.files (ask data.now query.now)) result m n) }
-    ensures reason { HasReason (λ files. request_verdict files (ask data.now query.now)) (W.told world.old) (W.read_faults world.old) (W.read_faults world.new) (W.write_faults world.old) (W.write_faults world.new) result }
+fn perform_ask<'a, W: World>(
+    alloc: Global,
+    data: &'a str,
+    query: &'a str,
+    world: &mut W,
+) -> Ending<'a>
+    ensures step { Step (W.told world.old) (W.told world.new) (λ m n.
+        EndsSo (request_verdict m.files (ask data.now query.now)) result m n) }
+    ensures reason { HasReason (λ files. request_verdict files (ask data.now query.now)) (W.told world.old)
+        (W.read_faults world.old) (W.read_faults world.new) (W.write_faults world.old) (W.write_faults world.new) result }
     ensures say_faults_stay { W.say_faults world.new ≡ W.say_faults world.old }
 {
     match read_all(alloc, world, data, MAX_DATA_BYTES) {
@@ -50,8 +62,10 @@ fn ask_of_data<'a, W: World>(
     world: &mut W,
 ) -> Ending<'a>
     requires { length data.now < 2 ^ 63 }
-    ensures step { Step (W.told world.old) (W.told world.new) (λ m n. EndsSo (query_verdict m.files data.now query.now) result m n) }
-    ensures reason { HasReason (λ files. query_verdict files data.now query.now) (W.told world.old) (W.read_faults world.old) (W.read_faults world.new) (W.write_faults world.old) (W.write_faults world.new) result }
+    ensures step { Step (W.told world.old) (W.told world.new) (λ m n.
+        EndsSo (query_verdict m.files data.now query.now) result m n) }
+    ensures reason { HasReason (λ files. query_verdict files data.now query.now) (W.told world.old)
+        (W.read_faults world.old) (W.read_faults world.new) (W.write_faults world.old) (W.write_faults world.new) result }
     ensures say_faults_stay { W.say_faults world.new ≡ W.say_faults world.old }
 {
     match read_all(alloc, world, query, MAX_QUERY_BYTES) {
@@ -69,7 +83,8 @@ fn print_decided<'a, W: World>(
 ) -> Ending<'a>
     requires { length data.now < 2 ^ 63 }
     ensures step { Step (W.told world.old) (W.told world.new) (EndsSo (decided data.now query.now) result) }
-    ensures reason { HasReason (λ files. decided data.now query.now) (W.told world.old) (W.read_faults world.old) (W.read_faults world.new) (W.write_faults world.old) (W.write_faults world.new) result }
+    ensures reason { HasReason (λ files. decided data.now query.now) (W.told world.old)
+        (W.read_faults world.old) (W.read_faults world.new) (W.write_faults world.old) (W.write_faults world.new) result }
     ensures say_faults_stay { W.say_faults world.new ≡ W.say_faults world.old }
 {
     match decide(alloc, data, query) {
