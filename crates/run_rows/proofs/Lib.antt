@@ -1,0 +1,4 @@
+pub mod RunLaws
+pub mod ByteLaws
+pub mod SearchLaws
+pub mod EncodingLaws
