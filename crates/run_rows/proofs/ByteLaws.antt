@@ -8,6 +8,7 @@ use Rattle.std.specs.Int.{w32, to_le_bytes, from_le_bytes}
 use Rattle.std.specs.List.{flat_map, range_with_len}
 use Rattle.run_rows.specs.declared.run.Run.{Run}
 use Rattle.run_rows.specs.Runs.{numbers_of, members, with_first, runs_of, AreRuns}
+use Rattle.run_rows.proofs.RunLaws.{AreRuns-lower}
 use Rattle.run_rows.specs.Encoding.{first_number, run_bytes, runs_in, IsRunText}
 
 -- each is below 256
@@ -102,6 +103,12 @@ IsRunThen-from_text low columns r bytes rest parts first text =
     let runs : AreRuns low columns (r ∷ runs_in rest) = subst (AreRuns low columns) first text.runs in
     let spelled : run_bytes r ++ rest ≡ run_bytes r ++ flat_map run_bytes (runs_in rest) = sym parts ∙ text.spelled ∙ ap (flat_map run_bytes) first in
     record { at_low = runs.0; some = runs.1; within = runs.2; behind = record { spelled = append_cancel_left (run_bytes r) rest _ spelled; runs = runs.3 } }
+
+-- the runs behind the first one are runs
+pub text_behind : (columns : ℕ) (r : Run) (bytes rest : List ℕ) → bytes ≡ run_bytes r ++ rest → runs_in bytes ≡ r ∷ runs_in rest → IsRunText 0 columns bytes → IsRunText 0 columns rest
+text_behind columns r bytes rest parts first text =
+    let behind = (IsRunThen-from_text 0 columns r bytes rest parts first text).behind in
+    record { spelled = behind.spelled; runs = AreRuns-lower 0 (r.start + r.len + 1) columns (runs_in rest) (omega arith) behind.runs }
 
 pub IsRunText-from_then : (low columns : ℕ) (r : Run) (bytes rest : List ℕ) → bytes ≡ run_bytes r ++ rest → runs_in bytes ≡ r ∷ runs_in rest → IsRunThen low columns r rest → IsRunText low columns bytes
 IsRunText-from_then low columns r bytes rest parts first then =

@@ -1,5 +1,5 @@
 -- Laws of encodings: a row has one spelling, and a spelling one row.
-use Rattle.std.proofs.Common.{◌≡◌, ℕ, suc, ◌+◌, ◌*◌, ◌^◌, ◌<◌, ◌≤◌, ◌↔◌, List, [], ◌∷◌, ◌++◌, length, refl, sym, ap, ◌∙◌, subst, length-append, inl, inr, arith}
+use Rattle.std.proofs.Common.{◌≡◌, ℕ, suc, ◌+◌, ◌-◌, ◌*◌, ◌^◌, ◌<◌, ◌≤◌, ◌↔◌, List, [], ◌∷◌, ◌++◌, length, refl, sym, ap, ◌∙◌, subst, length-append, inl, inr, arith}
 use Rattle.std.proofs.lemmas.Bool.{cases_eq}
 use Rattle.std.specs.List.{flat_map}
 use Rattle.run_rows.specs.declared.form.RowForm.{RowForm}
@@ -82,3 +82,14 @@ encoding_from_text V1 columns bytes some text =
     record {
       row = record { some = some-members 0 columns runs runs_some text.runs; ascends = AscendsWithin-members 0 columns runs text.runs };
       spelled = text.spelled ∙ ap (flat_map run_bytes) (sym (runs_of-members 0 columns runs text.runs)) }
+
+-- ---- what a row that is read knows of its bytes
+
+pub text_of_row : (form : RowForm) (bytes : List ℕ) → IsEncoding form (2 ^ 32 - 1) bytes → IsRunText 0 (2 ^ 32 - 1) bytes
+text_of_row form bytes encoding = (text_from_encoding form (2 ^ 32 - 1) bytes encoding (omega arith)).1
+
+pub numbers_of_row : (form : RowForm) (bytes : List ℕ) → row_numbers form bytes ≡ members (runs_in bytes)
+unfolding row_numbers
+numbers_of_row V1 bytes = refl
+
+pub ruleset row_as_runs = (text_of_row, numbers_of_row)

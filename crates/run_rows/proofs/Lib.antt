@@ -2,3 +2,4 @@ pub mod RunLaws
 pub mod ByteLaws
 pub mod SearchLaws
 pub mod EncodingLaws
+pub mod LeastLaws

@@ -15,10 +15,10 @@ AreRuns-drop low columns (suc i) r (q ∷ qs) after fits at =
     omega (arith, AreRuns-drop (q.start + q.len + 1) columns i r qs after fits.3 at)
 
 -- the search passes over a run that doesn't end after n, and finds one that does
-find-short : (n : ℕ) (r : Run) (rs : List Run) → r.start + r.len ≤ n → find (is_past n) (r ∷ rs) ≡ find (is_past n) rs
+pub find-short : (n : ℕ) (r : Run) (rs : List Run) → r.start + r.len ≤ n → find (is_past n) (r ∷ rs) ≡ find (is_past n) rs
 find-short n r rs ends = rw (le-ltb n (r.start + r.len) ends) refl
 
-find-past : (n : ℕ) (r : Run) (rs : List Run) → n < r.start + r.len → find (is_past n) (r ∷ rs) ≡ Some r
+pub find-past : (n : ℕ) (r : Run) (rs : List Run) → n < r.start + r.len → find (is_past n) (r ∷ rs) ≡ Some r
 find-past n r rs ends = rw (lt-ltb n (r.start + r.len) ends) refl
 
 -- a run that doesn't end after n is passed over with all runs before it

@@ -6,9 +6,11 @@
 #![tactic(auto)]
 
 mod form;
+mod iter;
 mod row;
 mod run;
 mod runs;
 
 pub use form::RowForm;
+pub use iter::RowIter;
 pub use row::{RowRef, check, view};

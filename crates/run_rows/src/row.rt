@@ -1,10 +1,11 @@
 //! A row, borrowed from its bytes.
 
-ghost use Rattle.std.specs.Prelude.{◌≡◌, ◌↔◌, ℕ, List, length, Contains, IsTrue, IfSome, Some};
+ghost use Rattle.std.specs.Prelude.{◌≡◌, ◌↔◌, ◌-◌, ◌^◌, ℕ, List, length, Contains, IsTrue, IfSome, Some};
 ghost use Rattle.run_rows.specs.Row.{IsRow, IsLeastFrom};
 ghost use Rattle.run_rows.specs.Encoding.{row_numbers, Encodes, IsEncoding};
 
 use crate::form::RowForm;
+use crate::iter::RowIter;
 use crate::runs;
 use std::marker::Model;
 
@@ -24,6 +25,47 @@ impl<'a> Model for RowRef<'a> {
     ghost view = { λ r. row_numbers r.form r.bytes.now };
 
     ghost invariant = { λ r. IsEncoding r.form (2 ^ 32 - 1) r.bytes.now };
+}
+
+impl<'a> RowRef<'a> {
+    /// Whether the row has `n`.
+    pub fn test(&self, n: u32) -> bool
+        ensures { IsTrue result ↔ Contains self.now n }
+    {
+        self.at_least(n) == Some(n)
+    }
+
+    /// The least number of the row that is not below `n`, found by halving.
+    #[tactic(auto, using(crate::proofs::EncodingLaws::row_as_runs))]
+    pub fn at_least(&self, n: u32) -> Option<u32>
+        ensures { IsLeastFrom n self.now result }
+    {
+        match self.form {
+            RowForm::V1 => runs::at_least(self.bytes, n),
+        }
+    }
+
+    /// How many numbers the row has.
+    #[tactic(auto, using(crate::proofs::EncodingLaws::row_as_runs))]
+    pub fn count(&self) -> u32
+        ensures count { result ≡ length self.now }
+        ensures row { IsRow (2 ^ 32 - 1) self.now }
+    {
+        match self.form {
+            RowForm::V1 => runs::count(self.bytes),
+        }
+    }
+
+    /// The numbers of the row in ascending order.
+    #[tactic(auto, using(crate::proofs::EncodingLaws::row_as_runs))]
+    pub fn iter(&self) -> RowIter<'a>
+        ensures numbers { result ≡ self.now }
+        ensures row { IsRow (2 ^ 32 - 1) self.now }
+    {
+        match self.form {
+            RowForm::V1 => RowIter::over_runs(self.bytes),
+        }
+    }
 }
 
 /// Whether the bytes are the encoding of a row with this many columns.

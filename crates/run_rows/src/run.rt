@@ -1,6 +1,6 @@
 //! One run, and the bytes that spell it.
 
-ghost use Rattle.std.specs.Prelude.{◌≡◌, ◌+◌, ◌*◌, ◌<◌, ◌≤◌, [], ◌∷◌, ◌++◌, length, drop, IfSome, IfNone};
+ghost use Rattle.std.specs.Prelude.{◌≡◌, ◌+◌, ◌-◌, ◌*◌, ◌^◌, ◌<◌, ◌≤◌, [], ◌∷◌, ◌++◌, length, drop, IfSome, IfNone};
 ghost use Rattle.run_rows.specs.Encoding.{run_bytes, runs_in};
 
 use byteorder::{ByteOrder, LittleEndian};
@@ -18,6 +18,18 @@ impl Run {
         ensures { result ≡ self.start + self.len }
     {
         u64::from(self.start) + u64::from(self.len)
+    }
+
+    /// The run without its first number.
+    pub fn tail(self) -> Run
+        requires some { 0 < self.len }
+        requires fits { self.start + self.len < 2 ^ 32 }
+        ensures { result ≡ record { start = self.start + 1; len = self.len - 1 } }
+    {
+        Run {
+            start: self.start + 1,
+            len: self.len - 1,
+        }
     }
 }
 

@@ -1,6 +1,7 @@
 //! Bytes that are runs one after the other, eight bytes each.
 
 ghost use Rattle.std.specs.Prelude.{◌≡◌, ◌+◌, ◌-◌, ◌^◌, ◌<◌, ◌↔◌, length, find, IsTrue};
+ghost use Rattle.run_rows.specs.Row.{IsLeastFrom};
 ghost use Rattle.run_rows.specs.Runs.{members, is_past};
 ghost use Rattle.run_rows.specs.Encoding.{runs_in, IsRunText};
 
@@ -53,4 +54,12 @@ pub fn first_past(bytes: &[u8], n: u32) -> Option<Run>
         }
     }
     if low == bytes.len() / 8 { None } else { Some(run_at(bytes, low)) }
+}
+
+/// The least number of the runs that is not below `n`.
+pub fn at_least(bytes: &[u8], n: u32) -> Option<u32>
+    requires { IsRunText 0 (2 ^ 32 - 1) bytes.now }
+    ensures { IsLeastFrom n (members (runs_in bytes.now)) result }
+{
+    first_past(bytes, n).map(|run| run.start.max(n))
 }
