@@ -27,6 +27,11 @@ some-runs_of : (xs : List ℕ) → 0 < length xs → 0 < length (runs_of xs)
 some-runs_of [] some = absurd (omega arith)
 some-runs_of (x ∷ xs) some = (length-with_first x (runs_of xs)).1
 
+-- the bytes of a row are those of its runs
+pub bytes_of_row : (form : RowForm) (xs : List ℕ) → row_bytes form xs ≡ flat_map run_bytes (runs_of xs)
+unfolding row_bytes
+bytes_of_row V1 xs = refl
+
 -- a row has bytes, and no more than eight for each number
 pub length-row_bytes-le : (form : RowForm) (xs : List ℕ) → length (row_bytes form xs) ≤ 8 * length xs
 unfolding row_bytes

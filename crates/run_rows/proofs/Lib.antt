@@ -3,3 +3,4 @@ pub mod ByteLaws
 pub mod SearchLaws
 pub mod EncodingLaws
 pub mod LeastLaws
+pub mod WritingLaws

@@ -73,7 +73,7 @@ AreRuns-lower low mid columns [] at_mid fits = tt
 AreRuns-lower low mid columns (r ∷ rs) at_mid fits = (omega arith, fits.1, fits.2, fits.3)
 
 -- a run's numbers, with a gap behind them, are one run
-runs_of-run : (columns start len : ℕ) (xs : List ℕ) → 0 < len → AreRuns (start + len + 1) columns (runs_of xs) → runs_of (range_with_len start len ++ xs) ≡ record { start = start; len = len } ∷ runs_of xs
+pub runs_of-run : (columns start len : ℕ) (xs : List ℕ) → 0 < len → AreRuns (start + len + 1) columns (runs_of xs) → runs_of (range_with_len start len ++ xs) ≡ record { start = start; len = len } ∷ runs_of xs
 runs_of-run columns start zero xs some fits = absurd (omega arith)
 runs_of-run columns start (suc zero) xs some fits =
     with_first-gap columns start (runs_of xs) (AreRuns-lower (start + 2) (start + 1 + 1) columns (runs_of xs) (omega arith) fits)

@@ -10,7 +10,9 @@ mod iter;
 mod row;
 mod run;
 mod runs;
+mod writing;
 
 pub use form::RowForm;
 pub use iter::RowIter;
 pub use row::{RowRef, check, view};
+pub use writing::encode;
