@@ -9,7 +9,7 @@ use Rattle.std.specs.List.{flat_map, range_with_len}
 use Rattle.run_rows.specs.declared.run.Run.{Run}
 use Rattle.run_rows.specs.Runs.{numbers_of, members, with_first, runs_of, AreRuns}
 use Rattle.run_rows.proofs.RunLaws.{AreRuns-lower}
-use Rattle.run_rows.specs.Encoding.{first_number, run_bytes, runs_in, IsRunText}
+use Rattle.run_rows.specs.Encoding.{run_bytes, runs_in, IsRunText}
 
 -- each is below 256
 abbrev pub IsBytes : List ℕ → Type 0
@@ -25,8 +25,8 @@ IsBytes-drop : (n : ℕ) (bytes : List ℕ) → IsBytes bytes → IsBytes (drop 
 IsBytes-drop n bytes fits i = rw get_or-drop (fits (n + i))
 
 -- the first eight bytes are those of the run that they spell
-pub run_bytes-read : (bytes : List ℕ) (r : Run) → 8 ≤ length bytes → IsBytes bytes → r.start ≡ first_number bytes → r.len ≡ first_number (drop 4 bytes) → bytes ≡ run_bytes r ++ drop 8 bytes
-unfolding first_number run_bytes
+pub run_bytes-read : (bytes : List ℕ) (r : Run) → 8 ≤ length bytes → IsBytes bytes → r.start ≡ from_le_bytes w32 bytes → r.len ≡ from_le_bytes w32 (drop 4 bytes) → bytes ≡ run_bytes r ++ drop 8 bytes
+unfolding run_bytes
 run_bytes-read (a ∷ b ∷ c ∷ d ∷ e ∷ f ∷ g ∷ h ∷ rest) r size fits start-is len-is =
     let bytes = a ∷ b ∷ c ∷ d ∷ e ∷ f ∷ g ∷ h ∷ rest in
     let front = le_bytes_4 (take 4 bytes) r.start refl (IsBytes-take 4 bytes fits) start-is in

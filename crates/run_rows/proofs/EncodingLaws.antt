@@ -8,6 +8,7 @@ use Rattle.run_rows.specs.declared.run.Run.{Run}
 use Rattle.run_rows.specs.Row.{AscendsWithin, IsRow}
 use Rattle.run_rows.specs.Runs.{members, with_first, runs_of, AreRuns}
 use Rattle.run_rows.specs.Encoding.{run_bytes, row_bytes, runs_in, row_numbers, Encodes, IsEncoding, IsRunText}
+use Rattle.run_rows.proofs.RowLaws.{IsRow-wider}
 use Rattle.run_rows.proofs.RunLaws.{AreRuns-runs_of, AscendsWithin-members, members-runs_of, runs_of-members, length-members-cons, with_first-next, with_first-apart}
 use Rattle.run_rows.proofs.ByteLaws.{runs_in-flat_map, runs_in_short, IsRunText-flat_map, length-flat_map-run_bytes, length-text}
 
@@ -52,16 +53,7 @@ pub same_row : (form : RowForm) (columns : ℕ) (bytes xs : List ℕ) → Encode
 same_row form columns bytes xs encodes small =
     ap (row_numbers form) encodes.spelled ∙ row_numbers-row_bytes form columns xs small encodes.row
 
--- a row of so many columns is one of more
-AscendsWithin-wider : (low columns wide : ℕ) (xs : List ℕ) → columns ≤ wide → AscendsWithin low columns xs → AscendsWithin low wide xs
-AscendsWithin-wider low columns wide [] wider ascends = tt
-AscendsWithin-wider low columns wide (x ∷ xs) wider ascends =
-    (ascends.0, omega arith, AscendsWithin-wider (x + 1) columns wide xs wider ascends.2)
-
-pub IsRow-wider : (columns wide : ℕ) (xs : List ℕ) → columns ≤ wide → IsRow columns xs → IsRow wide xs
-IsRow-wider columns wide xs wider row =
-    record { some = row.some; ascends = AscendsWithin-wider 0 columns wide xs wider row.ascends }
-
+-- an encoding of a row of so many columns is one of a row of more
 pub Encodes-wider : (form : RowForm) (columns wide : ℕ) (bytes xs : List ℕ) → columns ≤ wide → Encodes form columns bytes xs → Encodes form wide bytes xs
 Encodes-wider form columns wide bytes xs wider encodes =
     record { row = IsRow-wider columns wide xs wider encodes.row; spelled = encodes.spelled }

@@ -8,15 +8,9 @@ use Rattle.std.proofs.lemmas.List.Elements.{All-nil, All-cons, All-append, All-w
 use Rattle.run_rows.specs.declared.run.Run.{Run}
 use Rattle.run_rows.specs.Row.{AscendsWithin, IsLeastFrom}
 use Rattle.run_rows.specs.Runs.{numbers_of, members, AreRuns, is_past}
+use Rattle.run_rows.proofs.RowLaws.{All-ascending}
 use Rattle.run_rows.proofs.RunLaws.{AscendsWithin-members}
 use Rattle.run_rows.proofs.SearchLaws.{find-short, find-past}
-
--- the numbers of an ascending list are between its bounds
-pub All-ascending : (low columns : ℕ) (xs : List ℕ) → AscendsWithin low columns xs → All (λ x. (low ≤ x) × (x < columns)) xs
-All-ascending low columns [] ascends = All-nil _
-All-ascending low columns (x ∷ xs) ascends =
-    All-cons (λ x. (low ≤ x) × (x < columns)) x xs (ascends.0, ascends.1)
-    (All-weaker (λ y. (x + 1 ≤ y) × (y < columns)) (λ y. (low ≤ y) × (y < columns)) (λ y h. (omega arith, h.1)) xs (All-ascending (x + 1) columns xs ascends.2))
 
 -- the numbers of a run are from its start on and below its end
 All-numbers_of : (r : Run) → All (λ x. (r.start ≤ x) × (x < r.start + r.len)) (numbers_of r)

@@ -1,6 +1,7 @@
+pub mod RowLaws
 pub mod RunLaws
 pub mod ByteLaws
 pub mod SearchLaws
-pub mod EncodingLaws
 pub mod LeastLaws
+pub mod EncodingLaws
 pub mod WritingLaws

@@ -7,6 +7,7 @@ use Rattle.std.proofs.lemmas.List.FromFn.{length-range_with_len}
 use Rattle.std.specs.List.{flat_map, range_with_len}
 use Rattle.run_rows.specs.declared.run.Run.{Run}
 use Rattle.run_rows.specs.Row.{AscendsWithin}
+use Rattle.run_rows.proofs.RowLaws.{AscendsWithin-lower}
 use Rattle.run_rows.specs.Runs.{numbers_of, members, with_first, runs_of, AreRuns}
 
 -- a number right before the first run joins it
@@ -44,11 +45,6 @@ pub AreRuns-runs_of : (low columns : ℕ) (xs : List ℕ) → AscendsWithin low 
 AreRuns-runs_of low columns [] ascends = tt
 AreRuns-runs_of low columns (x ∷ xs) ascends =
     AreRuns-with_first low columns x (runs_of xs) ascends.0 ascends.1 (AreRuns-runs_of (x + 1) columns xs ascends.2)
-
--- a list that ascends from some number ascends from any number below it
-pub AscendsWithin-lower : (low mid columns : ℕ) (xs : List ℕ) → low ≤ mid → AscendsWithin mid columns xs → AscendsWithin low columns xs
-AscendsWithin-lower low mid columns [] at_mid ascends = tt
-AscendsWithin-lower low mid columns (x ∷ xs) at_mid ascends = (omega arith, ascends.1, ascends.2)
 
 -- a run's numbers in front of an ascending list
 AscendsWithin-run : (low mid columns start len : ℕ) (xs : List ℕ) → low ≤ start → start + len ≤ columns → start + len ≤ mid → AscendsWithin mid columns xs → AscendsWithin low columns (range_with_len start len ++ xs)

@@ -6,7 +6,8 @@ use Rattle.run_rows.specs.declared.run.Run.{Run}
 use Rattle.run_rows.specs.Row.{AscendsWithin, IsRow}
 use Rattle.run_rows.specs.Runs.{numbers_of, runs_of, AreRuns}
 use Rattle.run_rows.specs.Encoding.{run_bytes}
-use Rattle.run_rows.proofs.RunLaws.{AreRuns-runs_of, AscendsWithin-lower, runs_of-run}
+use Rattle.run_rows.proofs.RowLaws.{AscendsWithin-lower}
+use Rattle.run_rows.proofs.RunLaws.{AreRuns-runs_of, runs_of-run}
 
 -- the bytes of a list's runs
 abbrev runs_text : List ℕ → List ℕ
@@ -18,10 +19,6 @@ pub record IsWriting (columns : ℕ) (whole out : List ℕ) (r : Run) (rest : Li
   pub some : 0 < r.len
   pub within : r.start + r.len ≤ columns
   pub ascends : AscendsWithin (r.start + r.len) columns rest
-
-pub IsWriting-first : (columns x : ℕ) (xs : List ℕ) → IsRow columns (x ∷ xs) → IsWriting columns (x ∷ xs) [] (record { start = x; len = 1 }) xs
-IsWriting-first columns x xs row =
-    record { written = refl; some = omega arith; within = omega (arith, row.ascends.1); ascends = row.ascends.2 }
 
 -- a number right behind a run joins it
 range_with_len-joined : (a n x : ℕ) (xs : List ℕ) → x ≡ a + n → range_with_len a n ++ x ∷ xs ≡ range_with_len a (suc n) ++ xs

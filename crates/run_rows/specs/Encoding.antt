@@ -8,10 +8,6 @@ use Rattle.run_rows.specs.declared.run.Run.{Run}
 use Rattle.run_rows.specs.Row.{IsRow}
 use Rattle.run_rows.specs.Runs.{members, runs_of, AreRuns}
 
--- the number in the first four bytes, the lowest byte first
-unfoldable pub first_number : List ℕ → ℕ
-first_number bytes = from_le_bytes w32 bytes
-
 -- a run as two numbers of four bytes, the lowest byte first: its start and its length
 unfoldable pub run_bytes : Run → List ℕ
 run_bytes r = to_le_bytes w32 r.start ++ to_le_bytes w32 r.len

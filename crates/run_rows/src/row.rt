@@ -1,6 +1,7 @@
 //! A row, borrowed from its bytes.
 
-ghost use Rattle.std.specs.Prelude.{◌≡◌, ◌↔◌, ◌-◌, ◌^◌, ℕ, List, length, Contains, IsTrue, IfSome, Some};
+ghost use Rattle.std.specs.Prelude.{◌≡◌, ◌↔◌, ◌-◌, ◌^◌, ℕ, List, length, Contains, IsTrue, IsSome, IfSome, Some};
+ghost use Rattle.std.specs.List.Sorted.{IsStrictlyIncreasing};
 ghost use Rattle.run_rows.specs.Row.{IsRow, IsLeastFrom};
 ghost use Rattle.run_rows.specs.Encoding.{row_numbers, Encodes, IsEncoding};
 
@@ -61,6 +62,7 @@ impl<'a> RowRef<'a> {
     pub fn iter(&self) -> RowIter<'a>
         ensures numbers { result ≡ self.now }
         ensures row { IsRow (2 ^ 32 - 1) self.now }
+        ensures ascending { IsStrictlyIncreasing self.now }
     {
         match self.form {
             RowForm::V1 => RowIter::over_runs(self.bytes),
@@ -80,6 +82,7 @@ fn is_encoding(form: RowForm, bytes: &[u8], columns: u32) -> bool
 /// The row that the bytes encode. `None` exactly where they are not the encoding of a row with this
 /// many columns.
 pub fn check(form: RowForm, bytes: &[u8], columns: u32) -> Option<RowRef<'_>>
+    ensures some { IsSome result ↔ IsEncoding form columns bytes.now }
     ensures found { IfSome result (Encodes form columns bytes.now) }
     ensures numbers { IfSome result (λ xs. xs ≡ row_numbers form bytes.now) }
     ensures only { (xs : List ℕ) → Encodes form columns bytes.now xs → result ≡ Some xs }
