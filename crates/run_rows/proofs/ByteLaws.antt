@@ -1,13 +1,12 @@
 -- Laws of bytes: the bytes of runs and the runs determine each other.
-use Rattle.std.proofs.Common.{◌≡◌, ◌≢◌, ℕ, zero, suc, ◌+◌, ◌*◌, ◌^◌, ◌<◌, ◌≤◌, List, [], ◌∷◌, ◌++◌, length, get_or, take, drop, refl, sym, ap, ◌∙◌, subst, append_assoc, add-one, length-append, inl, inr, rules, arith, ◌==◌, ◌↔◌, IsTrue}
-use Rattle.std.proofs.lemmas.Grind.{common_steps}
+use Rattle.std.proofs.Common.{◌≡◌, ℕ, zero, suc, ◌+◌, ◌*◌, ◌^◌, ◌<◌, ◌≤◌, List, [], ◌∷◌, ◌++◌, length, get_or, take, drop, refl, sym, ap, ◌∙◌, subst, inl, inr, rules, arith, ◌==◌, ◌↔◌, IsTrue}
 use Rattle.std.proofs.lemmas.Bool.{cases_lt, eqb-true}
 use Rattle.std.proofs.lemmas.Nat.{le_bytes_4, from_le_bytes-to_le_bytes_4}
-use Rattle.std.proofs.lemmas.List.{append_cancel_left, take-append-drop, length-take, length-drop, get_or-take, get_or-drop, get_or_past, drop-drop}
+use Rattle.std.proofs.lemmas.List.{append_cancel_left, length-take, get_or-take, get_or-drop, get_or_past, drop-drop}
 use Rattle.std.specs.Int.{w32, to_le_bytes, from_le_bytes}
-use Rattle.std.specs.List.{flat_map, range_with_len}
+use Rattle.std.specs.List.{flat_map}
 use Rattle.run_rows.specs.declared.run.Run.{Run}
-use Rattle.run_rows.specs.Runs.{numbers_of, members, with_first, runs_of, AreRuns}
+use Rattle.run_rows.specs.Runs.{AreRuns}
 use Rattle.run_rows.proofs.RunLaws.{AreRuns-lower}
 use Rattle.run_rows.specs.Encoding.{run_bytes, runs_in, IsRunText}
 

@@ -1,16 +1,16 @@
 -- Laws of encodings: a row has one spelling, and a spelling one row.
-use Rattle.std.proofs.Common.{◌≡◌, ℕ, suc, ◌+◌, ◌-◌, ◌*◌, ◌^◌, ◌<◌, ◌≤◌, ◌↔◌, List, [], ◌∷◌, ◌++◌, length, refl, sym, ap, ◌∙◌, subst, length-append, inl, inr, arith}
+use Rattle.std.proofs.Common.{◌≡◌, ℕ, ◌+◌, ◌-◌, ◌*◌, ◌^◌, ◌<◌, ◌≤◌, List, [], ◌∷◌, length, refl, sym, ap, ◌∙◌, inl, inr, arith}
 use Rattle.std.proofs.lemmas.Bool.{cases_eq}
 use Rattle.std.specs.List.{flat_map}
 use Rattle.run_rows.specs.declared.form.RowForm.{RowForm}
 use Rattle.run_rows.specs.declared.form.RowForm.TheVariants.{V1}
 use Rattle.run_rows.specs.declared.run.Run.{Run}
-use Rattle.run_rows.specs.Row.{AscendsWithin, IsRow}
+use Rattle.run_rows.specs.Row.{IsRow}
 use Rattle.run_rows.specs.Runs.{members, with_first, runs_of, AreRuns}
 use Rattle.run_rows.specs.Encoding.{run_bytes, row_bytes, runs_in, row_numbers, Encodes, IsEncoding, IsRunText}
 use Rattle.run_rows.proofs.RowLaws.{IsRow-wider}
 use Rattle.run_rows.proofs.RunLaws.{AreRuns-runs_of, AscendsWithin-members, members-runs_of, runs_of-members, length-members-cons, with_first-next, with_first-apart}
-use Rattle.run_rows.proofs.ByteLaws.{runs_in-flat_map, runs_in_short, IsRunText-flat_map, length-flat_map-run_bytes, length-text}
+use Rattle.run_rows.proofs.ByteLaws.{runs_in-flat_map, IsRunText-flat_map, length-flat_map-run_bytes, length-text}
 
 -- a list has at most as many runs as numbers, and one at least where it has one number
 length-with_first : (x : ℕ) (rs : List Run) → (length (with_first x rs) ≤ length rs + 1) × (0 < length (with_first x rs))

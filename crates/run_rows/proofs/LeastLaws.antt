@@ -1,12 +1,11 @@
 -- Laws of the least number that is not below another.
-use Rattle.std.proofs.Common.{◌≡◌, ℕ, suc, ◌+◌, ◌-◌, ◌<◌, ◌≤◌, ◌↔◌, max, Bool, true, false, List, [], ◌∷◌, ◌++◌, length, get_or, find, All, Contains, Option, Some, None, refl, sym, ap, ◌∙◌, subst, inl, inr, rules, arith}
+use Rattle.std.proofs.Common.{◌≡◌, ℕ, ◌+◌, ◌-◌, ◌<◌, ◌≤◌, ◌↔◌, max, List, [], ◌∷◌, ◌++◌, find, All, Contains, Option, Some, None, ap, ◌∙◌, subst, inl, inr, arith}
 use Rattle.std.specs.Option.{option_map}
-use Rattle.std.specs.List.{range_with_len}
 use Rattle.std.proofs.lemmas.Bool.{cases_lt}
 use Rattle.std.proofs.lemmas.List.FromFn.{length-range_with_len, get_or-range_with_len}
-use Rattle.std.proofs.lemmas.List.Elements.{All-nil, All-cons, All-append, All-weaker, All-contains, Contains-get_or, Contains-append_left, Contains-append_right}
+use Rattle.std.proofs.lemmas.List.Elements.{All-nil, All-append, All-weaker, All-contains, Contains-append_left, Contains-append_right}
 use Rattle.run_rows.specs.declared.run.Run.{Run}
-use Rattle.run_rows.specs.Row.{AscendsWithin, IsLeastFrom}
+use Rattle.run_rows.specs.Row.{IsLeastFrom}
 use Rattle.run_rows.specs.Runs.{numbers_of, members, AreRuns, is_past}
 use Rattle.run_rows.proofs.RowLaws.{All-ascending}
 use Rattle.run_rows.proofs.RunLaws.{AscendsWithin-members}

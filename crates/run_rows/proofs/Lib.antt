@@ -1,3 +1,4 @@
+pub mod Examples
 pub mod RowLaws
 pub mod RunLaws
 pub mod ByteLaws

@@ -1,10 +1,10 @@
 -- Laws of writing: a run that is being written, and the numbers behind it.
-use Rattle.std.proofs.Common.{◌≡◌, ◌≢◌, ℕ, zero, suc, ◌+◌, ◌-◌, ◌^◌, ◌<◌, ◌≤◌, List, [], ◌∷◌, ◌++◌, length, refl, sym, ap, ◌∙◌, subst, append_assoc, add-one, arith}
+use Rattle.std.proofs.Common.{◌≡◌, ◌≢◌, ℕ, zero, suc, ◌+◌, ◌<◌, ◌≤◌, List, [], ◌∷◌, ◌++◌, sym, ap, ◌∙◌, append_assoc, add-one, arith}
 use Rattle.std.proofs.lemmas.List.{append-nil}
 use Rattle.std.specs.List.{flat_map, range_with_len}
 use Rattle.run_rows.specs.declared.run.Run.{Run}
-use Rattle.run_rows.specs.Row.{AscendsWithin, IsRow}
-use Rattle.run_rows.specs.Runs.{numbers_of, runs_of, AreRuns}
+use Rattle.run_rows.specs.Row.{AscendsWithin}
+use Rattle.run_rows.specs.Runs.{numbers_of, runs_of}
 use Rattle.run_rows.specs.Encoding.{run_bytes}
 use Rattle.run_rows.proofs.RowLaws.{AscendsWithin-lower}
 use Rattle.run_rows.proofs.RunLaws.{AreRuns-runs_of, runs_of-run}

@@ -1,6 +1,6 @@
 use Rattle.std.proofs.Common.{◌≡◌, ◌+◌, length}
 use Rattle.run_rows.specs.Runs.{members}
-use Rattle.run_rows.specs.Encoding.{runs_in, IsRunText}
+use Rattle.run_rows.specs.Encoding.{runs_in}
 use Rattle.run_rows.proofs.runs.count.Given as goal
 
 abbrev pub invariant-loop-run : goal.invariant-loop-run

@@ -1,5 +1,4 @@
-use Rattle.std.proofs.Common.{◌≡◌, ◌-◌, ◌*◌, ◌^◌, length, sym, arith}
-use Rattle.run_rows.specs.Encoding.{runs_in}
+use Rattle.std.proofs.Common.{◌-◌, ◌^◌, sym, arith}
 use Rattle.run_rows.proofs.ByteLaws.{length-text}
 use Rattle.run_rows.proofs.SearchLaws.{IsHalved-whole, IsHalved-upper, find-none}
 use Rattle.run_rows.proofs.runs.first_past.Goals as goal

@@ -1,4 +1,4 @@
-use Rattle.std.proofs.Common.{◌+◌, ◌-◌, length, take, drop, sym, ◌∙◌, arith}
+use Rattle.std.proofs.Common.{◌-◌, length, take, drop, sym, ◌∙◌, arith}
 use Rattle.std.proofs.lemmas.List.{drop_more, drop_all}
 use Rattle.run_rows.proofs.WritingLaws.{IsWriting-joined, IsWriting-apart, IsWriting-last}
 use Rattle.run_rows.proofs.writing.encode_runs.Goals as goal
