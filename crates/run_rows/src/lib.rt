@@ -16,3 +16,6 @@ pub use form::RowForm;
 pub use iter::RowIter;
 pub use row::{RowRef, check, view};
 pub use writing::encode;
+
+#[cfg(test)]
+mod tests;
