@@ -17,8 +17,9 @@ IsBytes bytes = (i : ℕ) → get_or bytes i 0 < 256
 IsBytes-take : (n : ℕ) (bytes : List ℕ) → IsBytes bytes → IsBytes (take n bytes)
 IsBytes-take n bytes fits i =
     elim (cases_lt i n) [
-      inl within ↦ rw (get_or-take n bytes i 0 within) (fits i)
-    | inr past ↦ rw (get_or_past (take n bytes) i 0 (omega (arith, length-take n bytes))) (omega arith) ]
+      | inl within ↦ rw (get_or-take n bytes i 0 within) (fits i)
+      | inr past ↦ rw (get_or_past (take n bytes) i 0 (omega (arith, length-take n bytes))) (omega arith)
+    ]
 
 IsBytes-drop : (n : ℕ) (bytes : List ℕ) → IsBytes bytes → IsBytes (drop n bytes)
 IsBytes-drop n bytes fits i = rw get_or-drop (fits (n + i))

@@ -17,8 +17,9 @@ length-with_first : (x : ℕ) (rs : List Run) → (length (with_first x rs) ≤ 
 length-with_first x [] = (omega arith, omega arith)
 length-with_first x (r ∷ rs) =
     elim (cases_eq (x + 1) r.start) [
-      inl e ↦ rw (with_first-next x r rs e) (omega arith, omega arith)
-    | inr ne ↦ rw (with_first-apart x r rs ne) (omega arith, omega arith) ]
+      | inl e ↦ rw (with_first-next x r rs e) (omega arith, omega arith)
+      | inr ne ↦ rw (with_first-apart x r rs ne) (omega arith, omega arith)
+    ]
 
 length-runs_of : (xs : List ℕ) → length (runs_of xs) ≤ length xs
 length-runs_of [] = omega arith
@@ -62,9 +63,10 @@ Encodes-wider form columns wide bytes xs wider encodes =
 pub text_from_encoding : (form : RowForm) (columns : ℕ) (bytes : List ℕ) → IsEncoding form columns bytes → columns < 2 ^ 32 → (0 < length bytes) × IsRunText 0 columns bytes
 unfolding row_bytes
 text_from_encoding V1 columns bytes encodes small =
-    let xs = row_numbers V1 bytes in
-    (omega (arith, ap length encodes.spelled, length-row_bytes-some V1 xs encodes.row.some),
-     rw encodes.spelled (IsRunText-flat_map (runs_of xs) 0 columns small (AreRuns-runs_of 0 columns xs encodes.row.ascends)))
+    let xs = row_numbers V1 bytes in (
+      omega (arith, ap length encodes.spelled, length-row_bytes-some V1 xs encodes.row.some),
+      rw encodes.spelled (IsRunText-flat_map (runs_of xs) 0 columns small (AreRuns-runs_of 0 columns xs encodes.row.ascends)),
+    )
 
 -- runs in order have a number where there is one of them
 some-members : (low columns : ℕ) (rs : List Run) → 0 < length rs → AreRuns low columns rs → 0 < length (members rs)
@@ -78,7 +80,8 @@ encoding_from_text V1 columns bytes some text =
     let runs_some : 0 < length runs = omega (arith, length-text 0 columns bytes text) in
     record {
       row = record { some = some-members 0 columns runs runs_some text.runs; ascends = AscendsWithin-members 0 columns runs text.runs };
-      spelled = text.spelled ∙ ap (flat_map run_bytes) (sym (runs_of-members 0 columns runs text.runs)) }
+      spelled = text.spelled ∙ ap (flat_map run_bytes) (sym (runs_of-members 0 columns runs text.runs));
+    }
 
 -- ---- what a row that is read knows of its bytes
 

@@ -22,9 +22,11 @@ no_number row = omega (arith, row.some)
 
 -- the least numbers from 3 and from 6 on
 least_from_3 : IsLeastFrom 3 (0 ∷ 1 ∷ 2 ∷ 5 ∷ []) (Some 5)
-least_from_3 =
-    (omega arith, (3, omega arith, refl),
-     All-from_recursion (λ x. 3 ≤ x → 5 ≤ x) (0 ∷ 1 ∷ 2 ∷ 5 ∷ []) (λ h. omega arith, (λ h. omega arith, (λ h. omega arith, (λ h. omega arith, tt)))))
+least_from_3 = (
+  omega arith,
+  (3, omega arith, refl),
+  All-from_recursion (λ x. 3 ≤ x → 5 ≤ x) (0 ∷ 1 ∷ 2 ∷ 5 ∷ []) (λ h. omega arith, (λ h. omega arith, (λ h. omega arith, (λ h. omega arith, tt)))),
+)
 
 least_from_6 : IsLeastFrom 6 (0 ∷ 1 ∷ 2 ∷ 5 ∷ []) None
 least_from_6 =

@@ -34,23 +34,26 @@ IsLeastFrom-find n low columns [] fits = All-nil _
 IsLeastFrom-find n low columns (r ∷ rs) fits =
     let of_run = All-numbers_of r in
     elim (cases_lt n (r.start + r.len)) [
-      inl past ↦ (
-        let least = max r.start n in
-        let of_rest = All-ascending (r.start + r.len + 1) columns (members rs) (AscendsWithin-members (r.start + r.len + 1) columns rs fits.3) in
-        rw (find-past n r rs past) (
-          omega arith,
-          Contains-append_left (numbers_of r) (members rs) least (Contains-numbers_of r least (omega arith) (omega arith)),
-          All-append (λ x. n ≤ x → least ≤ x) (numbers_of r) (members rs)
-            (All-weaker (λ x. (r.start ≤ x) × (x < r.start + r.len)) (λ x. n ≤ x → least ≤ x) (λ x h k. omega arith) (numbers_of r) of_run)
-            (All-weaker (λ x. (r.start + r.len + 1 ≤ x) × (x < columns)) (λ x. n ≤ x → least ≤ x) (λ x h k. omega arith) (members rs) of_rest)))
-    | inr short ↦ rw (find-short n r rs short) (
-        IsLeastFrom-behind n (numbers_of r) (members rs) _
+      | inl past ↦ (
+          let least = max r.start n in
+          let of_rest = All-ascending (r.start + r.len + 1) columns (members rs) (AscendsWithin-members (r.start + r.len + 1) columns rs fits.3) in
+          rw (find-past n r rs past) (
+            omega arith,
+            Contains-append_left (numbers_of r) (members rs) least (Contains-numbers_of r least (omega arith) (omega arith)),
+            All-append (λ x. n ≤ x → least ≤ x) (numbers_of r) (members rs)
+                (All-weaker (λ x. (r.start ≤ x) × (x < r.start + r.len)) (λ x. n ≤ x → least ≤ x) (λ x h k. omega arith) (numbers_of r) of_run)
+                (All-weaker (λ x. (r.start + r.len + 1 ≤ x) × (x < columns)) (λ x. n ≤ x → least ≤ x) (λ x h k. omega arith) (members rs) of_rest),
+          ))
+      | inr short ↦ rw (find-short n r rs short) (
+          IsLeastFrom-behind n (numbers_of r) (members rs) _
           (All-weaker (λ x. (r.start ≤ x) × (x < r.start + r.len)) (λ x. x < n) (λ x h. omega arith) (numbers_of r) of_run)
-          (IsLeastFrom-find n (r.start + r.len + 1) columns rs fits.3)) ]
+          (IsLeastFrom-find n (r.start + r.len + 1) columns rs fits.3))
+    ]
 
 -- a list has n where n is the least number from n on
 pub Contains-least : (n : ℕ) (xs : List ℕ) (o : Option ℕ) → IsLeastFrom n xs o → Contains xs n ↔ (o ≡ Some n)
 Contains-least n xs None least = (λ has. absurd (omega (arith, All-contains (λ x. x < n) xs n least has)), λ e. absurd cc)
-Contains-least n xs (Some m) least =
-    (λ has. let at_most : m ≤ n = All-contains (λ x. n ≤ x → m ≤ x) xs n least.2 has (omega arith) in let same : m ≡ n = omega (arith, at_most, least.0) in ap Some same,
-     λ e. let same : m ≡ n = cc in subst (Contains xs) same least.1)
+Contains-least n xs (Some m) least = (
+  λ has. let at_most : m ≤ n = All-contains (λ x. n ≤ x → m ≤ x) xs n least.2 has (omega arith) in let same : m ≡ n = omega (arith, at_most, least.0) in ap Some same,
+  λ e. let same : m ≡ n = cc in subst (Contains xs) same least.1,
+)

@@ -22,8 +22,9 @@ pub members-with_first : (x : ℕ) (rs : List Run) → members (with_first x rs)
 members-with_first x [] = refl
 members-with_first x (r ∷ rs) =
     elim (cases_eq (x + 1) r.start) [
-      inl e ↦ rw (with_first-next x r rs e, add-one, e) refl
-    | inr ne ↦ rw (with_first-apart x r rs ne) refl ]
+      | inl e ↦ rw (with_first-next x r rs e, add-one, e) refl
+      | inr ne ↦ rw (with_first-apart x r rs ne) refl
+    ]
 
 -- the runs of a list have its numbers
 pub members-runs_of : (xs : List ℕ) → members (runs_of xs) ≡ xs
@@ -35,9 +36,10 @@ AreRuns-with_first : (low columns x : ℕ) (rs : List Run) → low ≤ x → x <
 AreRuns-with_first low columns x [] at_low below fits = (at_low, omega arith, omega arith, tt)
 AreRuns-with_first low columns x (r ∷ rs) at_low below fits =
     elim (cases_eq (x + 1) r.start) [
-      inl e ↦ (let ends : r.start + r.len + 1 ≡ x + (r.len + 1) + 1 = omega arith in
-        rw (with_first-next x r rs e) (at_low, omega arith, omega arith, subst (λ (n : ℕ). AreRuns n columns rs) ends fits.3))
-    | inr ne ↦ rw (with_first-apart x r rs ne) (at_low, omega arith, omega arith, (omega arith, fits.1, fits.2, fits.3)) ]
+      | inl e ↦ (let ends : r.start + r.len + 1 ≡ x + (r.len + 1) + 1 = omega arith in
+          rw (with_first-next x r rs e) (at_low, omega arith, omega arith, subst (λ (n : ℕ). AreRuns n columns rs) ends fits.3))
+      | inr ne ↦ rw (with_first-apart x r rs ne) (at_low, omega arith, omega arith, (omega arith, fits.1, fits.2, fits.3))
+    ]
 
 -- the runs of an ascending list are in order, with a gap between each and the next
 pub AreRuns-runs_of : (low columns : ℕ) (xs : List ℕ) → AscendsWithin low columns xs → AreRuns low columns (runs_of xs)

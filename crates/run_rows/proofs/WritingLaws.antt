@@ -32,7 +32,8 @@ IsWriting-joined columns x whole out xs r next writing =
       written = writing.written ∙ ap (λ (ys : List ℕ). out ++ runs_text ys) joined;
       some = omega arith;
       within = omega (arith, writing.ascends.1);
-      ascends = AscendsWithin-lower (r.start + (r.len + 1)) (x + 1) columns xs (omega arith) writing.ascends.2 }
+      ascends = AscendsWithin-lower (r.start + (r.len + 1)) (x + 1) columns xs (omega arith) writing.ascends.2;
+    }
 
 -- the run is done where the next number leaves a gap, or there is none
 runs_text-apart : (columns : ℕ) (r : Run) (xs : List ℕ) → 0 < r.len → AscendsWithin (r.start + r.len + 1) columns xs → runs_text (numbers_of r ++ xs) ≡ run_bytes r ++ runs_text xs
@@ -47,7 +48,8 @@ IsWriting-apart columns x whole out xs r apart writing =
       written = writing.written ∙ ap (λ (ys : List ℕ). out ++ ys) (runs_text-apart columns r (x ∷ xs) writing.some gap) ∙ sym (append_assoc out (run_bytes r) (runs_text (x ∷ xs)));
       some = omega arith;
       within = omega (arith, ascends.1);
-      ascends = ascends.2 }
+      ascends = ascends.2;
+    }
 
 pub IsWriting-last : (columns : ℕ) (whole out : List ℕ) (r : Run) → IsWriting columns whole out r [] → runs_text whole ≡ out ++ run_bytes r
 IsWriting-last columns whole out r writing =

@@ -53,7 +53,11 @@ pub fn first_past(bytes: &[u8], n: u32) -> Option<Run>
             high = middle;
         }
     }
-    if low == bytes.len() / 8 { None } else { Some(run_at(bytes, low)) }
+    if low == bytes.len() / 8 {
+        None
+    } else {
+        Some(run_at(bytes, low))
+    }
 }
 
 /// The least number of the runs that is not below `n`.

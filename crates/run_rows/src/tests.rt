@@ -72,9 +72,24 @@ fn agrees(rt: &impl Abort, alloc: Global, bytes: &[u8]) -> Result<(), AllocError
     Ok(())
 }
 
+/// All strings of up to 16 bytes that are 0 or 1.
+#[test]
+fn agrees_on_strings_of_two_bytes(rt: HostRuntime) -> Result<(), Fail> {
+    for len in 0..17usize {
+        for bits in 0..1u32 << len {
+            let mut bytes = [0u8; 16];
+            for i in 0..16 {
+                bytes[i] = (bits >> i & 1) as u8;
+            }
+            agrees(&rt, rt.alloc(), &bytes[..len])?;
+        }
+    }
+    Ok(())
+}
+
 /// All strings of up to 16 bytes that begin a string of four numbers of a small alphabet.
 #[test]
-fn agrees_with_a_plain_decoder(rt: HostRuntime) -> Result<(), Fail> {
+fn agrees_on_strings_of_seven_numbers(rt: HostRuntime) -> Result<(), Fail> {
     let alphabet = [0u32, 1, 2, 3, 4, 256, u32::MAX];
     for a in alphabet {
         for b in alphabet {

@@ -3,7 +3,7 @@ use Rattle.run_rows.proofs.ByteLaws.{IsRunThen-from_text, IsRunText-from_then, I
 use Rattle.run_rows.proofs.runs.are_runs.Goals as goal
 
 pub loop-run-preserved : goal.loop-run-preserved
-loop-run-preserved c = 
+loop-run-preserved c =
     let run = c.in-Some.run' in
     let split = IsRunThen-from_text c.loop-run.low c.args.columns run c.loop-run.rest.now c.in-Some.after.now c.in-Some.ensures.spelled c.in-Some.ensures.first in
     let join = IsRunText-from_then c.loop-run.low c.args.columns run c.loop-run.rest.now c.in-Some.after.now c.in-Some.ensures.spelled c.in-Some.ensures.first in

@@ -9,8 +9,9 @@ loop-n-preserved c =
     let behind = take (length c.args.numbers.now - 1) (drop 1 c.args.numbers.now) in
     let writing = rw (drop_more behind c.loop-n.n-index 0 c.loop-n-test.true) at c.loop-n.invariant in
     elim c.if-from-end.branch [
-      then-from-end w ↦ rw (w.out-is, w.run-is) (IsWriting-joined _ _ _ _ _ c.loop-n.run (omega arith) writing)
-    | else-from-end+in_ok-push_run w ↦ rw (w.out-is, w.run-is, w.in_ok-push_run.ensures) (IsWriting-apart _ _ _ _ _ c.loop-n.run (λ next. omega arith) writing) ]
+      | then-from-end w ↦ rw (w.out-is, w.run-is) (IsWriting-joined _ _ _ _ _ c.loop-n.run (omega arith) writing)
+      | else-from-end+in_ok-push_run w ↦ rw (w.out-is, w.run-is, w.in_ok-push_run.ensures) (IsWriting-apart _ _ _ _ _ c.loop-n.run (λ next. omega arith) writing)
+    ]
 
 pub returns : goal.returns
 returns c =
