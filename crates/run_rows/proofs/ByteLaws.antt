@@ -8,7 +8,7 @@ use Rattle.std.specs.List.{flat_map}
 use Rattle.run_rows.specs.declared.run.Run.{Run}
 use Rattle.run_rows.specs.Runs.{AreRuns}
 use Rattle.run_rows.proofs.RunLaws.{AreRuns-lower}
-use Rattle.run_rows.specs.Encoding.{run_bytes, runs_in, IsRunText}
+use Rattle.run_rows.specs.Encoding.{run_bytes, runs_in, SpellsRuns}
 
 -- each is below 256
 abbrev pub IsBytes : List ℕ → Type 0
@@ -77,8 +77,8 @@ runs_in-flat_map (r ∷ rs) low columns small fits =
     runs_in-run_bytes r (flat_map run_bytes rs) (record { start = omega arith; len = omega arith }) ∙ ap (λ (qs : List Run). r ∷ qs) (runs_in-flat_map rs (r.start + r.len + 1) columns small fits.3)
 
 -- the bytes of runs in order
-pub IsRunText-flat_map : (rs : List Run) (low columns : ℕ) → columns < 2 ^ 32 → AreRuns low columns rs → IsRunText low columns (flat_map run_bytes rs)
-IsRunText-flat_map rs low columns small fits =
+pub SpellsRuns-flat_map : (rs : List Run) (low columns : ℕ) → columns < 2 ^ 32 → AreRuns low columns rs → SpellsRuns low columns (flat_map run_bytes rs)
+SpellsRuns-flat_map rs low columns small fits =
     let same = runs_in-flat_map rs low columns small fits in
     record { spelled = ap (flat_map run_bytes) (sym same); runs = rw same fits }
 
@@ -88,40 +88,40 @@ unfolding run_bytes
 length-flat_map-run_bytes [] = refl
 length-flat_map-run_bytes (r ∷ rs) = omega (arith, length-flat_map-run_bytes rs)
 
-pub length-text : (low columns : ℕ) (bytes : List ℕ) → IsRunText low columns bytes → length bytes ≡ 8 * length (runs_in bytes)
-length-text low columns bytes text = ap length text.spelled ∙ length-flat_map-run_bytes (runs_in bytes)
+pub length-runs : (low columns : ℕ) (bytes : List ℕ) → SpellsRuns low columns bytes → length bytes ≡ 8 * length (runs_in bytes)
+length-runs low columns bytes spells = ap length spells.spelled ∙ length-flat_map-run_bytes (runs_in bytes)
 
 -- the first run of bytes is in order, and so are the runs behind it
-pub record IsRunThen (low columns : ℕ) (r : Run) (rest : List ℕ) : Type 0 where
+pub record BeginsWithRun (low columns : ℕ) (r : Run) (rest : List ℕ) : Type 0 where
   pub at_low : low ≤ r.start
   pub some : 0 < r.len
   pub within : r.start + r.len ≤ columns
-  pub behind : IsRunText (r.start + r.len + 1) columns rest
+  pub behind : SpellsRuns (r.start + r.len + 1) columns rest
 
-pub IsRunThen-from_text : (low columns : ℕ) (r : Run) (bytes rest : List ℕ) → bytes ≡ run_bytes r ++ rest → runs_in bytes ≡ r ∷ runs_in rest → IsRunText low columns bytes → IsRunThen low columns r rest
-IsRunThen-from_text low columns r bytes rest parts first text =
-    let runs : AreRuns low columns (r ∷ runs_in rest) = subst (AreRuns low columns) first text.runs in
-    let spelled : run_bytes r ++ rest ≡ run_bytes r ++ flat_map run_bytes (runs_in rest) = sym parts ∙ text.spelled ∙ ap (flat_map run_bytes) first in
+pub BeginsWithRun-from_runs : (low columns : ℕ) (r : Run) (bytes rest : List ℕ) → bytes ≡ run_bytes r ++ rest → runs_in bytes ≡ r ∷ runs_in rest → SpellsRuns low columns bytes → BeginsWithRun low columns r rest
+BeginsWithRun-from_runs low columns r bytes rest parts first spells =
+    let runs : AreRuns low columns (r ∷ runs_in rest) = subst (AreRuns low columns) first spells.runs in
+    let spelled : run_bytes r ++ rest ≡ run_bytes r ++ flat_map run_bytes (runs_in rest) = sym parts ∙ spells.spelled ∙ ap (flat_map run_bytes) first in
     record { at_low = runs.0; some = runs.1; within = runs.2; behind = record { spelled = append_cancel_left (run_bytes r) rest _ spelled; runs = runs.3 } }
 
 -- the runs behind the first one are runs
-pub text_behind : (columns : ℕ) (r : Run) (bytes rest : List ℕ) → bytes ≡ run_bytes r ++ rest → runs_in bytes ≡ r ∷ runs_in rest → IsRunText 0 columns bytes → IsRunText 0 columns rest
-text_behind columns r bytes rest parts first text =
-    let behind = (IsRunThen-from_text 0 columns r bytes rest parts first text).behind in
+pub runs_behind : (columns : ℕ) (r : Run) (bytes rest : List ℕ) → bytes ≡ run_bytes r ++ rest → runs_in bytes ≡ r ∷ runs_in rest → SpellsRuns 0 columns bytes → SpellsRuns 0 columns rest
+runs_behind columns r bytes rest parts first spells =
+    let behind = (BeginsWithRun-from_runs 0 columns r bytes rest parts first spells).behind in
     record { spelled = behind.spelled; runs = AreRuns-lower 0 (r.start + r.len + 1) columns (runs_in rest) (omega arith) behind.runs }
 
-pub IsRunText-from_then : (low columns : ℕ) (r : Run) (bytes rest : List ℕ) → bytes ≡ run_bytes r ++ rest → runs_in bytes ≡ r ∷ runs_in rest → IsRunThen low columns r rest → IsRunText low columns bytes
-IsRunText-from_then low columns r bytes rest parts first then =
+pub SpellsRuns-from_first : (low columns : ℕ) (r : Run) (bytes rest : List ℕ) → bytes ≡ run_bytes r ++ rest → runs_in bytes ≡ r ∷ runs_in rest → BeginsWithRun low columns r rest → SpellsRuns low columns bytes
+SpellsRuns-from_first low columns r bytes rest parts first then =
     let spelled : bytes ≡ flat_map run_bytes (r ∷ runs_in rest) = parts ∙ ap (λ (p : List ℕ). run_bytes r ++ p) then.behind.spelled in
     record { spelled = spelled ∙ ap (flat_map run_bytes) (sym first); runs = rw first (then.at_low, then.some, then.within, then.behind.runs) }
 
-IsRunText-nil : (low columns : ℕ) → IsRunText low columns []
-IsRunText-nil low columns =
+SpellsRuns-nil : (low columns : ℕ) → SpellsRuns low columns []
+SpellsRuns-nil low columns =
     let none = runs_in_short [] (omega arith) in
     record { spelled = ap (flat_map run_bytes) (sym none); runs = rw none tt }
 
 -- of fewer than eight bytes only none at all are runs
-pub IsRunText-short : (low columns : ℕ) (bytes : List ℕ) → length bytes < 8 → IsTrue (length bytes == 0) ↔ IsRunText low columns bytes
-IsRunText-short low columns [] short = (λ _. IsRunText-nil low columns, λ _. search rules)
-IsRunText-short low columns (b ∷ bytes) short =
-    (λ empty. absurd (omega (arith, eqb-true _ _ empty)), λ text. absurd (let nil : b ∷ bytes ≡ [] = text.spelled ∙ ap (flat_map run_bytes) (runs_in_short (b ∷ bytes) short) in cc))
+pub SpellsRuns-short : (low columns : ℕ) (bytes : List ℕ) → length bytes < 8 → IsTrue (length bytes == 0) ↔ SpellsRuns low columns bytes
+SpellsRuns-short low columns [] short = (λ _. SpellsRuns-nil low columns, λ _. search rules)
+SpellsRuns-short low columns (b ∷ bytes) short =
+    (λ empty. absurd (omega (arith, eqb-true _ _ empty)), λ spells. absurd (let nil : b ∷ bytes ≡ [] = spells.spelled ∙ ap (flat_map run_bytes) (runs_in_short (b ∷ bytes) short) in cc))

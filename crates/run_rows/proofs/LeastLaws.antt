@@ -1,9 +1,9 @@
 -- Laws of the least number that is not below another.
-use Rattle.std.proofs.Common.{◌≡◌, ℕ, ◌+◌, ◌-◌, ◌<◌, ◌≤◌, ◌↔◌, max, List, [], ◌∷◌, ◌++◌, find, All, Contains, Option, Some, None, ap, ◌∙◌, subst, inl, inr, arith}
+use Rattle.std.proofs.Common.{ℕ, ◌+◌, ◌-◌, ◌<◌, ◌≤◌, max, List, [], ◌∷◌, ◌++◌, find, All, Contains, Option, Some, None, ◌∙◌, inl, inr, arith}
 use Rattle.std.specs.Option.{option_map}
 use Rattle.std.proofs.lemmas.Bool.{cases_lt}
 use Rattle.std.proofs.lemmas.List.FromFn.{length-range_with_len, get_or-range_with_len}
-use Rattle.std.proofs.lemmas.List.Elements.{All-nil, All-append, All-weaker, All-contains, Contains-append_left, Contains-append_right}
+use Rattle.std.proofs.lemmas.List.Elements.{All-nil, All-append, All-weaker, Contains-append_left, Contains-append_right}
 use Rattle.run_rows.specs.declared.run.Run.{Run}
 use Rattle.run_rows.specs.Row.{IsLeastFrom}
 use Rattle.run_rows.specs.Runs.{numbers_of, members, AreRuns, is_past}
@@ -49,11 +49,3 @@ IsLeastFrom-find n low columns (r ∷ rs) fits =
           (All-weaker (λ x. (r.start ≤ x) × (x < r.start + r.len)) (λ x. x < n) (λ x h. omega arith) (numbers_of r) of_run)
           (IsLeastFrom-find n (r.start + r.len + 1) columns rs fits.3))
     ]
-
--- a list has n where n is the least number from n on
-pub Contains-least : (n : ℕ) (xs : List ℕ) (o : Option ℕ) → IsLeastFrom n xs o → Contains xs n ↔ (o ≡ Some n)
-Contains-least n xs None least = (λ has. absurd (omega (arith, All-contains (λ x. x < n) xs n least has)), λ e. absurd cc)
-Contains-least n xs (Some m) least = (
-  λ has. let at_most : m ≤ n = All-contains (λ x. n ≤ x → m ≤ x) xs n least.2 has (omega arith) in let same : m ≡ n = omega (arith, at_most, least.0) in ap Some same,
-  λ e. let same : m ≡ n = cc in subst (Contains xs) same least.1,
-)

@@ -48,16 +48,6 @@ pub IsHalved-upper : (n low high middle columns : ℕ) (r : Run) (rs : List Run)
 IsHalved-upper n low high middle columns r rs fits below at ends halved =
     record { ordered = omega arith; within = halved.within; passed = find-passed n 0 columns middle r rs (drop (middle + 1) rs) fits at ends; past = halved.past }
 
-pub IsHalved-lower : (n low high middle : ℕ) (r : Run) (rs after : List Run) → low ≤ middle → middle < high → drop middle rs ≡ r ∷ after → n < r.start + r.len → IsHalved n rs low high → IsHalved n rs low middle
-IsHalved-lower n low high middle r rs after above below at ends halved =
-    record { ordered = above; within = omega arith; passed = halved.passed; past = rw at ends }
-
--- where low has met high, the search is done
+-- where low is behind the last run, no run ends after n
 pub find-none : (n low high : ℕ) (rs : List Run) → IsHalved n rs low high → length rs ≤ low → find (is_past n) rs ≡ None
 find-none n low high rs halved at_end = halved.passed ∙ rw (drop_all low rs at_end) refl
-
-pub find-at : (n low high : ℕ) (r : Run) (rs after : List Run) → IsHalved n rs low high → high ≤ low → drop low rs ≡ r ∷ after → find (is_past n) rs ≡ Some r
-find-at n low high r rs after halved met at =
-    let same : high ≡ low = omega arith in
-    let ends : n < r.start + r.len = rw at at (rw same at halved.past) in
-    halved.passed ∙ ap (find (is_past n)) at ∙ find-past n r after ends

@@ -36,6 +36,6 @@ abbrev pub IsEncoding : RowForm → ℕ → List ℕ → Type 0
 IsEncoding form columns bytes = Encodes form columns bytes (row_numbers form bytes)
 
 -- the bytes are whole runs and nothing else, and the runs are in order
-pub record IsRunText (low columns : ℕ) (bytes : List ℕ) : Type 0 where
+pub record SpellsRuns (low columns : ℕ) (bytes : List ℕ) : Type 0 where
   pub spelled : bytes ≡ flat_map run_bytes (runs_in bytes)
   pub runs : AreRuns low columns (runs_in bytes)

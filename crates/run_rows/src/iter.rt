@@ -3,7 +3,7 @@
 ghost use Rattle.std.specs.Prelude.{◌≡◌, ◌+◌, ◌-◌, ◌^◌, ◌<◌, [], ◌∷◌, IfSome, IfNone};
 ghost use Rattle.std.specs.Iterator.{YieldsFirst, item_count};
 ghost use Rattle.run_rows.specs.Runs.{members};
-ghost use Rattle.run_rows.specs.Encoding.{runs_in, IsRunText};
+ghost use Rattle.run_rows.specs.Encoding.{runs_in, SpellsRuns};
 
 use crate::run::{Run, split_run};
 use std::marker::Model;
@@ -18,19 +18,19 @@ pub struct RowIter<'a> {
 impl<'a> Model for RowIter<'a> {
     ghost use Rattle.std.specs.Prelude.{ℕ, List, ◌∷◌, ◌+◌, ◌-◌, ◌^◌, ◌<◌};
     ghost use Rattle.run_rows.specs.Runs.{members};
-    ghost use Rattle.run_rows.specs.Encoding.{runs_in, IsRunText};
+    ghost use Rattle.run_rows.specs.Encoding.{runs_in, SpellsRuns};
 
     ghost Value = { List ℕ };
 
     ghost view = { λ i. members (i.run ∷ runs_in i.rest.now) };
 
-    ghost invariant = { λ i. (i.run.start + i.run.len < 2 ^ 32) × IsRunText 0 (2 ^ 32 - 1) i.rest.now };
+    ghost invariant = { λ i. (i.run.start + i.run.len < 2 ^ 32) × SpellsRuns 0 (2 ^ 32 - 1) i.rest.now };
 }
 
 impl<'a> RowIter<'a> {
     /// The numbers of the runs that the bytes spell.
     pub(crate) fn over_runs(bytes: &'a [u8]) -> RowIter<'a>
-        requires { IsRunText 0 (2 ^ 32 - 1) bytes.now }
+        requires { SpellsRuns 0 (2 ^ 32 - 1) bytes.now }
         ensures { result ≡ members (runs_in bytes.now) }
     {
         RowIter {
@@ -43,11 +43,11 @@ impl<'a> RowIter<'a> {
 /// The first number of a run and the runs behind it, and what is left of them.
 fn split_number(run: Run, rest: &[u8]) -> Option<(u32, Run, &[u8])>
     requires fits { run.start + run.len < 2 ^ 32 }
-    requires text { IsRunText 0 (2 ^ 32 - 1) rest.now }
+    requires runs { SpellsRuns 0 (2 ^ 32 - 1) rest.now }
     ensures first { IfSome result (λ parts.
         members (run ∷ runs_in rest.now) ≡ parts.0 ∷ members (parts.1 ∷ runs_in parts.2.now)) }
     ensures left_fits { IfSome result (λ parts. parts.1.start + parts.1.len < 2 ^ 32) }
-    ensures left_text { IfSome result (λ parts. IsRunText 0 (2 ^ 32 - 1) parts.2.now) }
+    ensures left_runs { IfSome result (λ parts. SpellsRuns 0 (2 ^ 32 - 1) parts.2.now) }
     ensures none { IfNone result (members (run ∷ runs_in rest.now) ≡ []) }
 {
     if run.len > 0 {

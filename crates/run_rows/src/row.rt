@@ -10,7 +10,8 @@ use crate::iter::RowIter;
 use crate::runs;
 use std::marker::Model;
 
-/// A row that borrows its bytes. It is seen as its numbers: strictly ascending, and at least one.
+/// A row that borrows its bytes. It is seen as the list of its numbers: at least one, strictly ascending,
+/// each below the number of columns that it was checked for.
 #[derive(Debug, Drop)]
 pub struct RowRef<'a> {
     form: RowForm,
@@ -29,14 +30,14 @@ impl<'a> Model for RowRef<'a> {
 }
 
 impl<'a> RowRef<'a> {
-    /// Whether the row has `n`.
+    /// Whether the row has `n`, found by halving.
     pub fn test(&self, n: u32) -> bool
         ensures { IsTrue result ↔ Contains self.now n }
     {
         self.at_least(n) == Some(n)
     }
 
-    /// The least number of the row that is not below `n`, found by halving.
+    /// The least number of the row that is not below `n`, found by halving. `None` where there is none.
     #[tactic(auto, using(crate::proofs::EncodingLaws::row_as_runs))]
     pub fn at_least(&self, n: u32) -> Option<u32>
         ensures { IsLeastFrom n self.now result }
@@ -79,8 +80,9 @@ fn is_encoding(form: RowForm, bytes: &[u8], columns: u32) -> bool
     }
 }
 
-/// The row that the bytes encode. `None` exactly where they are not the encoding of a row with this
-/// many columns.
+/// The row that the bytes encode. `None` exactly where they are not the encoding of a row with this many
+/// columns: a row has one encoding, so what [`encode`](crate::encode) gave is that row, and no other bytes
+/// are.
 pub fn check(form: RowForm, bytes: &[u8], columns: u32) -> Option<RowRef<'_>>
     ensures some { IsSome result ↔ IsEncoding form columns bytes.now }
     ensures found { IfSome result (Encodes form columns bytes.now) }
@@ -93,8 +95,8 @@ pub fn check(form: RowForm, bytes: &[u8], columns: u32) -> Option<RowRef<'_>>
     Some(RowRef { form, bytes })
 }
 
-/// The row that the bytes encode, where they are known to: [`check`] answers `Some` of them. No byte is
-/// read.
+/// The row that the bytes encode, where they are known to encode one: where [`check`] would answer `Some`.
+/// No byte is read.
 pub fn view(form: RowForm, bytes: &[u8], columns: u32) -> RowRef<'_>
     requires { IsEncoding form columns bytes.now }
     ensures encoded { Encodes form columns bytes.now result }

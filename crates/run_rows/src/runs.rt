@@ -3,13 +3,13 @@
 ghost use Rattle.std.specs.Prelude.{◌≡◌, ◌+◌, ◌-◌, ◌^◌, ◌<◌, ◌↔◌, length, find, IsTrue};
 ghost use Rattle.run_rows.specs.Row.{IsLeastFrom};
 ghost use Rattle.run_rows.specs.Runs.{members, is_past};
-ghost use Rattle.run_rows.specs.Encoding.{runs_in, IsRunText};
+ghost use Rattle.run_rows.specs.Encoding.{runs_in, SpellsRuns};
 
 use crate::run::{Run, run_at, split_run};
 
 /// Whether the bytes are runs in order that end by `columns`, and nothing else.
 pub fn are_runs(bytes: &[u8], columns: u32) -> bool
-    ensures { IsTrue result ↔ IsRunText 0 columns bytes.now }
+    ensures { IsTrue result ↔ SpellsRuns 0 columns bytes.now }
 {
     let mut rest = bytes;
     let mut low: u64 = 0;
@@ -26,7 +26,7 @@ pub fn are_runs(bytes: &[u8], columns: u32) -> bool
 
 /// How many numbers the runs have.
 pub fn count(bytes: &[u8]) -> u32
-    requires { IsRunText 0 (2 ^ 32 - 1) bytes.now }
+    requires { SpellsRuns 0 (2 ^ 32 - 1) bytes.now }
     ensures { result ≡ length (members (runs_in bytes.now)) }
 {
     let mut rest = bytes;
@@ -40,7 +40,7 @@ pub fn count(bytes: &[u8]) -> u32
 
 /// The first run that ends after `n`, by halving.
 pub fn first_past(bytes: &[u8], n: u32) -> Option<Run>
-    requires { IsRunText 0 (2 ^ 32 - 1) bytes.now }
+    requires { SpellsRuns 0 (2 ^ 32 - 1) bytes.now }
     ensures { result ≡ find (is_past n) (runs_in bytes.now) }
 {
     let mut low = 0;
@@ -62,7 +62,7 @@ pub fn first_past(bytes: &[u8], n: u32) -> Option<Run>
 
 /// The least number of the runs that is not below `n`.
 pub fn at_least(bytes: &[u8], n: u32) -> Option<u32>
-    requires { IsRunText 0 (2 ^ 32 - 1) bytes.now }
+    requires { SpellsRuns 0 (2 ^ 32 - 1) bytes.now }
     ensures { IsLeastFrom n (members (runs_in bytes.now)) result }
 {
     first_past(bytes, n).map(|run| run.start.max(n))

@@ -42,7 +42,8 @@ fn encode_runs(alloc: Global, numbers: &[u32]) -> Result<Vec<u8>, AllocError>
     Ok(out)
 }
 
-/// The one encoding of the row of these numbers, at most eight bytes for each.
+/// The one encoding of the row of these numbers, at most eight bytes for each of them. There is a number,
+/// they ascend strictly, and none is `2 ^ 32 - 1`. `Err` only where memory runs out.
 #[tactic(auto, using(crate::proofs::EncodingLaws::bytes_of_row))]
 pub fn encode(alloc: Global, form: RowForm, numbers: &[u32]) -> Result<Vec<u8>, AllocError>
     requires { IsRow (2 ^ 32 - 1) numbers.now }
