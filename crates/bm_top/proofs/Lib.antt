@@ -3,6 +3,7 @@ pub mod Deciding
 pub mod Distinct
 pub mod Lists
 pub mod Parts
+pub mod LinePieces
 pub mod PlainLines
 pub mod PlainQueries
 pub mod PlainVars

@@ -1,5 +1,6 @@
 -- What is known at the end of a command, and of what was complained then, is what the program promises.
-use Rattle.std.proofs.Common.{◌≡◌, ◌≢◌, ◌⊎◌, inl, inr, ℕ, List, [], ◌++◌, length, take, Option, Some, None, Result, Ok, Err, OnErr, IsSomeAnd, refl, sym, ◌∙◌, ap, subst, arith, append-nil}
+use Rattle.std.proofs.Common.{◌≡◌, ◌≢◌, ◌⊎◌, inl, inr, ℕ, List, [], ◌++◌, length, take, Option, Some, None, Result, Ok, Err, OnErr, IsSomeAnd, refl, sym, ◌∙◌, ap, subst, arith, zero, suc}
+use Rattle.std.proofs.lemmas.List.{append-nil}
 use Rattle.std.proofs.Math.Seq.{take-length}
 use Rattle.bm_world.specs.Meanings.{Files, Meanings, with_complained}
 use Rattle.bm_world.specs.World.{Rose, RisesOnErr, AppendsAll}
@@ -14,7 +15,7 @@ use Rattle.bm_top.specs.Run.{IsComplete, IsHonest, Outputs, KeepsFiles, HasCause
 -- a command keeps files and complaints
 kept : (verdict : Verdict) (ending : Ending) (m k : Meanings) → EndsSo verdict ending m k → (k.files ≡ m.files) × (k.complained ≡ m.complained)
 kept verdict ends.Done m k ended = (ap (λ (w : Meanings). w.files) ended.1, ap (λ (w : Meanings). w.complained) ended.1)
-kept verdict ends.WriteFault m k (zero, (count, moved)) = (ap (λ (w : Meanings). w.files) moved, ap (λ (w : Meanings). w.complained) moved)
+kept verdict ends.WriteFault m k (done, (count, moved)) = (ap (λ (w : Meanings). w.files) moved, ap (λ (w : Meanings). w.complained) moved)
 kept verdict ends.Memory m k ended = (ap (λ (w : Meanings). w.files) ended, ap (λ (w : Meanings). w.complained) ended)
 kept verdict (ends.ReadFault name) m k ended = (ap (λ (w : Meanings). w.files) ended, ap (λ (w : Meanings). w.complained) ended)
 kept verdict ends.Usage m k ended = (ap (λ (w : Meanings). w.files) ended.1, ap (λ (w : Meanings). w.complained) ended.1)
@@ -44,6 +45,15 @@ said_so line (Err e) k n (count, moved) = record {
 said_all : (line : List ℕ) (says says_now : ℕ) (said : Result (Unit {0}) Failed) (k n : Meanings) → AppendsAll with_complained line said k n → OnErr said (Rose says says_now) → ¬ Rose says says_now → n.complained ≡ k.complained ++ line
 said_all line says says_now (Ok u) k n moved cause quiet = ap (λ (w : Meanings). w.complained) moved
 said_all line says says_now (Err e) k n moved cause quiet = absurd (quiet cause)
+
+-- nothing was printed
+unprinted : (verdict : Verdict) (status : ℕ) (line : List ℕ) (said : Result (Unit {0}) Failed) (m k n : Meanings) → status ≢ 0 → status ≢ 6 → status ≢ 7 → k.printed ≡ m.printed → AppendsAll with_complained line said k n → Outputs verdict status m n
+unprinted verdict status line said m k n no0 no6 no7 same complained = record {
+    whole = λ e. absurd (no0 e);
+    quiet = λ e. absurd (no0 e);
+    front = λ e. absurd (elim e [ inl a ↦ no6 a | inr b ↦ no7 b ]);
+    nothing = λ _ _ _. (said_so line said k n complained).printed ∙ same;
+  }
 
 pub KeepsFiles-ended : (verdict : Verdict) (ending : Ending) (said : Result (Unit {0}) Failed) (m k n : Meanings) → EndsSo verdict ending m k → AppendsAll with_complained (line_of ending) said k n → KeepsFiles m n
 KeepsFiles-ended verdict ending said m k n ended complained =
@@ -93,5 +103,90 @@ module _ (verdict : Files → Verdict) (told : Option Meanings) (reads reads_now
   IsComplete-ended ends.NotPlain m k is ended had = λ _ _. answered_or_7 (verdict m.files) ends.NotPlain m k ended (λ e. omega arith) (λ e. omega arith)
   IsComplete-ended (ends.TooLong name limit) m k is ended had = λ _ _. answered_or_7 (verdict m.files) (ends.TooLong name limit) m k ended (λ e. omega arith) (λ e. omega arith)
 
+-- what was printed, and then something was complained
 pub Outputs-ended : (verdict : Verdict) (ending : Ending) (said : Result (Unit {0}) Failed) (m k n : Meanings) → EndsSo verdict ending m k → AppendsAll with_complained (line_of ending) said k n → Outputs verdict (status_of ending) m n
-Outputs-ended verdict ending said m k n ended complained = ?
+Outputs-ended verdict ends.Done said m k n ended complained =
+    let after = said_so [] said k n complained in
+    record {
+      whole = λ _. after.printed ∙ ap (λ (w : Meanings). w.printed) ended.1;
+      quiet = λ _. after.front.1 ∙ nothing_more k.complained after.front.0 ∙ ap (λ (w : Meanings). w.complained) ended.1;
+      front = λ e. absurd (elim e [ inl a ↦ omega arith | inr b ↦ omega arith ]);
+      nothing = λ not _ _. absurd (not refl);
+    }
+  where
+    nothing_more : (said_before : List ℕ) (count : ℕ) → said_before ++ take count [] ≡ said_before
+    nothing_more said_before zero = append-nil said_before
+    nothing_more said_before (suc count) = append-nil said_before
+Outputs-ended verdict ends.WriteFault said m k n (done, (count, moved)) complained =
+    let after = said_so (line_of ends.WriteFault) said k n complained in
+    record {
+      whole = λ e. absurd (omega arith);
+      quiet = λ e. absurd (omega arith);
+      front = λ _. (count, after.printed ∙ ap (λ (w : Meanings). w.printed) moved);
+      nothing = λ _ not _. absurd (not refl);
+    }
+Outputs-ended verdict ends.Memory said m k n ended complained =
+    let after = said_so (line_of ends.Memory) said k n complained in
+    record {
+      whole = λ e. absurd (omega arith);
+      quiet = λ e. absurd (omega arith);
+      front = λ _. (0, after.printed ∙ ap (λ (w : Meanings). w.printed) ended ∙ sym (append-nil m.printed));
+      nothing = λ _ _ not. absurd (not refl);
+    }
+Outputs-ended verdict (ends.ReadFault name) said m k n ended complained = unprinted verdict (status_of (ends.ReadFault name)) (line_of (ends.ReadFault name)) said m k n (λ e. omega arith) (λ e. omega arith) (λ e. omega arith) (ap (λ (w : Meanings). w.printed) ended) complained
+Outputs-ended verdict ends.Usage said m k n ended complained = unprinted verdict 1 (line_of ends.Usage) said m k n (λ e. omega arith) (λ e. omega arith) (λ e. omega arith) (ap (λ (w : Meanings). w.printed) ended.1) complained
+Outputs-ended verdict (ends.BadLine line) said m k n ended complained = unprinted verdict 2 (line_of (ends.BadLine line)) said m k n (λ e. omega arith) (λ e. omega arith) (λ e. omega arith) (ap (λ (w : Meanings). w.printed) ended.1) complained
+Outputs-ended verdict ends.NotPlain said m k n ended complained = unprinted verdict 3 (line_of ends.NotPlain) said m k n (λ e. omega arith) (λ e. omega arith) (λ e. omega arith) (ap (λ (w : Meanings). w.printed) ended.1) complained
+Outputs-ended verdict (ends.TooLong name limit) said m k n ended complained = unprinted verdict 8 (line_of (ends.TooLong name limit)) said m k n (λ e. omega arith) (λ e. omega arith) (λ e. omega arith) (ap (λ (w : Meanings). w.printed) ended.1) complained
+
+-- the line of an ending was complained
+line_said : (ending : Ending) (said : Result (Unit {0}) Failed) (verdict : Verdict) (says says_now : ℕ) (m k n : Meanings) → EndsSo verdict ending m k → AppendsAll with_complained (line_of ending) said k n → OnErr said (Rose says says_now) → ComplainsLine (line_of ending) says says_now m n
+line_said ending said verdict says says_now m k n ended complained cause =
+    let after = said_so (line_of ending) said k n complained in
+    let before = (kept verdict ending m k ended).1 in
+    record {
+      front = (after.front.0, after.front.1 ∙ ap (λ text. text ++ take after.front.0 (line_of ending)) before);
+      whole = λ quiet. said_all (line_of ending) says says_now said k n complained cause quiet ∙ ap (λ text. text ++ line_of ending) before;
+    }
+
+module _ (verdict : Files → Verdict) (told : Option Meanings) (reads reads_now writes writes_now says says_now : ℕ) where
+  -- the ending is a refusal whose verdict this is
+  refusal : (ending : Ending) (m n : Meanings) (status : ℕ) → verdict m.files ≡ refused status (line_of ending) → status_of ending ≢ 5 → status_of ending ≢ 6 → status_of ending ≢ 7 → ComplainsLine (line_of ending) says says_now m n → Complains (verdict m.files) reads reads_now says says_now (status_of ending) m n
+  refusal ending m n status is no5 no6 no7 line = record {
+      verdict_line = λ _ _ _ _. rw is line;
+      read_line = λ e. absurd (no5 e);
+      write_line = λ e. absurd (no6 e);
+      memory_line = λ e. absurd (no7 e);
+    }
+
+  pub Complains-ended : (ending : Ending) (said : Result (Unit {0}) Failed) (m k n : Meanings) → told ≡ Some m → EndsSo (verdict m.files) ending m k → HasReason verdict told reads reads_now writes writes_now ending → AppendsAll with_complained (line_of ending) said k n → OnErr said (Rose says says_now) → Complains (verdict m.files) reads reads_now says says_now (status_of ending) m n
+  Complains-ended ends.Done said m k n is ended had complained cause = record {
+      verdict_line = λ not _ _ _. absurd (not refl);
+      read_line = λ e. absurd (omega arith);
+      write_line = λ e. absurd (omega arith);
+      memory_line = λ e. absurd (omega arith);
+    }
+  Complains-ended ends.WriteFault said m k n is ended had complained cause = record {
+      verdict_line = λ _ not _ _. absurd (not refl);
+      read_line = λ e. absurd (omega arith);
+      write_line = λ _. line_said ends.WriteFault said (verdict m.files) says says_now m k n ended complained cause;
+      memory_line = λ e. absurd (omega arith);
+    }
+  Complains-ended ends.Memory said m k n is ended had complained cause = record {
+      verdict_line = λ _ _ not _. absurd (not refl);
+      read_line = λ e. absurd (omega arith);
+      write_line = λ e. absurd (omega arith);
+      memory_line = λ _. line_said ends.Memory said (verdict m.files) says says_now m k n ended complained cause;
+    }
+  Complains-ended (ends.ReadFault name) said m k n is ended had complained cause =
+      let line = line_said (ends.ReadFault name) said (verdict m.files) says says_now m k n ended complained cause in
+      record {
+        verdict_line = λ _ _ _ quiet. rw (missing_line verdict told reads reads_now writes writes_now (ends.ReadFault name) name.now m is (quiet refl) had.reason) line;
+        read_line = λ _. (name.now, line);
+        write_line = λ e. absurd (omega arith);
+        memory_line = λ e. absurd (omega arith);
+      }
+  Complains-ended ends.Usage said m k n is ended had complained cause = refusal ends.Usage m n 1 ended.0 (λ e. omega arith) (λ e. omega arith) (λ e. omega arith) (line_said ends.Usage said (verdict m.files) says says_now m k n ended complained cause)
+  Complains-ended (ends.BadLine line) said m k n is ended had complained cause = refusal (ends.BadLine line) m n 2 ended.0 (λ e. omega arith) (λ e. omega arith) (λ e. omega arith) (line_said (ends.BadLine line) said (verdict m.files) says says_now m k n ended complained cause)
+  Complains-ended ends.NotPlain said m k n is ended had complained cause = refusal ends.NotPlain m n 3 ended.0 (λ e. omega arith) (λ e. omega arith) (λ e. omega arith) (line_said ends.NotPlain said (verdict m.files) says says_now m k n ended complained cause)
+  Complains-ended (ends.TooLong name limit) said m k n is ended had complained cause = refusal (ends.TooLong name limit) m n 8 ended.0 (λ e. omega arith) (λ e. omega arith) (λ e. omega arith) (line_said (ends.TooLong name limit) said (verdict m.files) says says_now m k n ended complained cause)

@@ -39,6 +39,13 @@ EndsSo-after_read verdict ending m k n read ended =
     same verdict ends.Memory m n rest ended = ended
     same verdict (ends.TooLong name limit) m n rest ended = ended
 
+-- where the meanings are told at the entry, they are known there
+pub Step-known : {a b : Option Meanings} {R : Meanings → Meanings → Type 0} → Step a b R → Step a b (λ m n. R m n × (a ≡ Some m))
+Step-known step = record {
+  silent = step.silent;
+  moves = λ m n was is. (step.moves m n was is, was);
+}
+
 -- a fact on what is told, in a wider sense
 IsSomeAnd-wider : {T : Type 0} (o : Option T) (P Q : T → Type 0) → ((x : T) → P x → Q x) → IsSomeAnd o P → IsSomeAnd o Q
 IsSomeAnd-wider None P Q wider h = h

@@ -31,7 +31,7 @@ pub(crate) fn perform<'a, W: World>(
     ensures say_faults_stay { W.say_faults world.new ≡ W.say_faults world.old }
 {
     match command {
-        Some(Command { data, query }) => perform_ask(alloc, data, query, world),
+        Some(ask) => perform_ask(alloc, ask.data, ask.query, world),
         None => Ending::Usage,
     }
 }

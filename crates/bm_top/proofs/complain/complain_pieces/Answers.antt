@@ -1,4 +1,28 @@
+use Rattle.std.proofs.Common.{◌≡◌, ℕ, suc, ◌≤◌, ◌++◌, List, Bor, take, drop, get_or, arith, sym, ◌∙◌, ap}
+use Rattle.std.specs.List.{flat_map}
+use Rattle.bm_world.specs.Meanings.{with_complained}
+use Rattle.bm_world.proofs.Appending.{complained_appends, appends_some}
+use Rattle.bm_world.proofs.Steps.{Step-then, Step-weaken}
+use Rattle.bm_top.proofs.LinePieces.{no_piece, all_of, pieces-more, AppendsUpTo-pieces, AppendsSome-wider, pieces-whole}
 use Rattle.bm_top.proofs.complain.complain_pieces.Goals as goal
 
 pub loop-piece-preserved : goal.loop-piece-preserved
-loop-piece-preserved g c = let h : ⊥ = c.in-Ok.ensures.step in ?
+loop-piece-preserved g c =
+    let piece = (get_or c.args.pieces.now c.loop-piece.piece-index no_piece).now in
+    let before = all_of (take c.loop-piece.piece-index c.args.pieces.now) in
+    let more = pieces-more c.args.pieces.now c.loop-piece.piece-index no_piece c.loop-piece-test.true in
+    record {
+      said = Step-then c.loop-piece.invariant.said c.in-Ok.ensures.step (λ m k n so_far moved. moved ∙ ap (λ w. with_complained w piece) so_far ∙ complained_appends.more m before piece ∙ ap (with_complained m) (sym more));
+      later = omega (arith, c.loop-piece.invariant.later, c.in-Ok.ensures.cause.later);
+      reads = c.in-Ok.ensures.read_faults_stay ∙ c.loop-piece.invariant.reads;
+      writes = c.in-Ok.ensures.write_faults_stay ∙ c.loop-piece.invariant.writes;
+    }
+
+pub returns-in-Err-clause-step : goal.returns-in-Err-clause-step
+returns-in-Err-clause-step g c =
+    appends_some complained_appends (Step-weaken c.loop-piece.invariant.said (AppendsUpTo-pieces c.args.pieces.now c.loop-piece.piece-index no_piece c.loop-piece-test.true))
+    (Step-weaken c.in-Err.ensures.step (AppendsSome-wider (get_or c.args.pieces.now c.loop-piece.piece-index no_piece).now (all_of (drop (suc c.loop-piece.piece-index) c.args.pieces.now))))
+
+pub returns-clause-step : goal.returns-clause-step
+returns-clause-step g c =
+    Step-weaken c.loop-piece.invariant.said (λ m n so_far. so_far ∙ ap (with_complained m) (pieces-whole c.args.pieces.now c.loop-piece.piece-index c.loop-piece-test.false))
