@@ -1,0 +1,119 @@
+// The world as the system gives it. It tells nothing of content, and counts each failure.
+ghost use Rattle.std.specs.Prelude.{None};
+
+use bm_world::{Failed, World};
+use std::fs;
+use std::fs::File;
+use std::io::{Read, Write};
+
+/// Files, standard output and standard error.
+#[derive(Drop)]
+pub struct RealWorld {
+    rt: HostRuntime,
+    reading: Option<File>,
+    making: Option<File>,
+    read_faults: u64,
+    write_faults: u64,
+    say_faults: u64,
+}
+
+impl RealWorld {
+    /// Nothing is open, and nothing has failed.
+    pub fn new(rt: HostRuntime) -> RealWorld {
+        RealWorld {
+            rt,
+            reading: None,
+            making: None,
+            read_faults: 0,
+            write_faults: 0,
+            say_faults: 0,
+        }
+    }
+}
+
+impl World for RealWorld {
+    ghost told = { λ w. None };
+
+    ghost read_faults = { λ w. w.read_faults };
+
+    ghost write_faults = { λ w. w.write_faults };
+
+    ghost say_faults = { λ w. w.say_faults };
+
+    fn open(&mut self, name: &str) -> Result<(), Failed> {
+        match fs::open(&self.rt, name) {
+            Ok(file) => {
+                self.reading = Some(file);
+                Ok(())
+            }
+            Err(_) => {
+                self.reading = None;
+                self.read_faults = self.read_faults.saturating_add(1);
+                Err(Failed)
+            }
+        }
+    }
+
+    fn read(&mut self, into: &mut [u8]) -> Result<usize, Failed> {
+        if let Some(file) = &mut self.reading {
+            if let Ok(count) = file.read(into) {
+                return Ok(count);
+            }
+        }
+        self.read_faults = self.read_faults.saturating_add(1);
+        Err(Failed)
+    }
+
+    fn create(&mut self, name: &str) -> Result<(), Failed> {
+        if self.making.is_none() {
+            if let Ok(file) = fs::create(&self.rt, name) {
+                self.making = Some(file);
+                return Ok(());
+            }
+        }
+        self.write_faults = self.write_faults.saturating_add(1);
+        Err(Failed)
+    }
+
+    fn write(&mut self, piece: &[u8]) -> Result<usize, Failed> {
+        if let Some(file) = &mut self.making {
+            if let Ok(count) = file.write(piece) {
+                if count > 0 || piece.is_empty() {
+                    return Ok(count);
+                }
+            }
+        }
+        self.write_faults = self.write_faults.saturating_add(1);
+        Err(Failed)
+    }
+
+    fn close(&mut self) -> Result<(), Failed> {
+        if let Some(mut file) = self.making.take() {
+            if file.flush().is_ok() {
+                return Ok(());
+            }
+        }
+        self.write_faults = self.write_faults.saturating_add(1);
+        Err(Failed)
+    }
+
+    fn print(&mut self, piece: &[u8]) -> Result<usize, Failed> {
+        if let Ok(count) = self.rt.write_some(piece) {
+            if count > 0 || piece.is_empty() {
+                return Ok(count);
+            }
+        }
+        self.write_faults = self.write_faults.saturating_add(1);
+        Err(Failed)
+    }
+
+    fn complain(&mut self, piece: &[u8]) -> Result<usize, Failed> {
+        if let Ok(count) = self.rt.stderr().write_some(piece) {
+            if count > 0 || piece.is_empty() {
+                return Ok(count);
+            }
+        }
+        self.say_faults = self.say_faults.saturating_add(1);
+        Err(Failed)
+    }
+}
