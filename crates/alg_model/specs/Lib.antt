@@ -1,3 +1,4 @@
 pub mod Row
 pub mod Pattern
 pub mod Eval
+pub mod Solution

@@ -4,12 +4,14 @@
 #![tactic(auto)]
 
 mod eval;
+mod laws;
 mod pattern;
 mod query;
 mod row;
 mod var;
 
 pub use eval::eval_plain;
+pub use laws::basic_pattern_law;
 pub use pattern::{PatList, Pattern, Place, TriplePat};
 pub use query::{Columns, Names, Query};
 pub use row::RowList;
