@@ -1,5 +1,5 @@
 -- Lists, of any items: what a `flat_map` has and has not, and a `filter_map` as one.
-use Rattle.std.proofs.Common.{◌≡◌, ◌≢◌, ℕ, zero, suc, ◌+◌, ◌-◌, ◌<◌, ◌++◌, ◌⊎◌, inl, inr, List, [], ◌∷◌, length, take, get_or, flat_map, All, AllPairs, Contains, Option, Some, None, IfSome, option_to_list, refl, sym, ◌∙◌, ap, subst, arith}
+use Rattle.std.proofs.Common.{◌≡◌, ◌≢◌, ℕ, zero, suc, ◌+◌, ◌-◌, ◌<◌, ◌++◌, ◌⊎◌, inl, inr, List, [], ◌∷◌, length, take, get_or, flat_map, filter, if◌then◌else◌, Bool, true, false, All, AllPairs, Contains, Option, Some, None, IfSome, option_to_list, refl, sym, ◌∙◌, ap, subst, arith}
 use Rattle.std.proofs.lemmas.Bool.{cases_lt}
 use Rattle.std.proofs.lemmas.List.{take_more, get_or_append_left, get_or-append_right, length-append}
 use Rattle.std.proofs.lemmas.List.Elements.{filter_map-append, All-nil, All-cons, All-head, All-tail, All-append, All-contains, Contains-get_or, Contains-append_left, Contains-append_right, Contains-append_cases}
@@ -17,6 +17,14 @@ pub filter_map_as_flat_map : {X Y : Type 0} (f : X → Option Y) (xs : List X) �
 filter_map_as_flat_map f [] = refl
 filter_map_as_flat_map f (x ∷ xs) =
     cons_option-append (f x) (filter_map f xs) ∙ ap (λ ys. option_to_list (f x) ++ ys) (filter_map_as_flat_map f xs)
+
+pub filter_as_flat_map : {X : Type 0} (p : X → Bool) (xs : List X) → filter p xs ≡ flat_map (λ x. if p x then x ∷ [] else []) xs
+filter_as_flat_map p [] = refl
+filter_as_flat_map p (x ∷ xs) =
+    elim (p x) as (λ b. (if b then x ∷ filter p xs else filter p xs) ≡ (if b then x ∷ [] else []) ++ flat_map (λ x. if p x then x ∷ [] else []) xs) [
+      | true ↦ ap (λ ys. x ∷ ys) (filter_as_flat_map p xs)
+      | false ↦ filter_as_flat_map p xs
+    ]
 
 -- what f gives of one more item, x, which is the item at i
 pub filter_map-more : {X Y : Type 0} (f : X → Option Y) (xs : List X) (i : ℕ) (x : X) → i < length xs → x ≡ get_or xs i x → filter_map f (take (i + 1) xs) ≡ filter_map f (take i xs) ++ option_to_list (f x)

@@ -11,7 +11,7 @@ mod row;
 mod var;
 
 pub use eval::eval_plain;
-pub use laws::basic_pattern_law;
+pub use laws::{basic_pattern_law, triple_order_law};
 pub use pattern::{PatList, Pattern, Place, TriplePat};
 pub use query::{Columns, Names, Query};
 pub use row::RowList;
