@@ -8,6 +8,8 @@ mod laws;
 mod pattern;
 mod query;
 mod row;
+#[cfg(test)]
+mod tests;
 mod var;
 
 pub use eval::eval_plain;
