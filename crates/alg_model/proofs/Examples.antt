@@ -87,7 +87,7 @@ a_solution = record {
   width = refl;
   binds = binds_x;
   made = all-single (λ triple_pattern. Any (Makes as_terms (Some a ∷ []) triple_pattern) (triple a b ∷ [])) (pattern x (term b) 1)
-    (0, triple a b, lit< tt, refl, record { subject = refl; predicate = refl; object = refl })
+      (0, triple a b, lit< tt, refl, record { subject = refl; predicate = refl; object = refl });
 }
 
 -- a row that binds a further variable is none
@@ -117,10 +117,10 @@ two_names = record {
   few_names = lit≤ tt;
   names_are_text = All-cons IsUtf8 (codes "x") (codes "y" ∷ []) (one_letter 120 (lit< tt)) (all-single IsUtf8 (codes "y") (one_letter 121 (lit< tt)));
   names_differ = AllPairs-append (λ first second. first ≢ second) (codes "x" ∷ []) (codes "y" ∷ []) (AllPairs-option (λ first second. first ≢ second) (Some (codes "x"))) (AllPairs-option (λ first second. first ≢ second) (Some (codes "y")))
-    (λ first second hx hy same. x_is_not_y (Contains-single (codes "x") first hx ∙ same ∙ sym (Contains-single (codes "y") second hy)));
+      (λ first second hx hy same. x_is_not_y (Contains-single (codes "x") first hx ∙ same ∙ sym (Contains-single (codes "y") second hy)));
   pattern = record { vars_below = below_two; few_optional = lit≤ tt; few_triples = lit≤ tt; numbered = refl };
   columns_below = all-single (λ column. column.0 < 2) (record { 0 = 1 }) (lit< tt);
-  columns_differ = AllPairs-option (λ first second. first ≢ second) (Some (record { 0 = 1 }))
+  columns_differ = AllPairs-option (λ first second. first ≢ second) (Some (record { 0 = 1 }));
 }
 
 -- a name that stands twice is against them

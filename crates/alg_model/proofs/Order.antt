@@ -1,12 +1,12 @@
 -- The order of lists does not matter to the bags of rows that come of them.
-use Rattle.std.proofs.Common.{◌≡◌, ℕ, zero, suc, ◌<◌, Bool, true, false, List, [], ◌∷◌, ◌++◌, fold, filter, flat_map, filter_map, length, get_or, set, swap, not, if◌then◌else◌, IsPermutation, Option, option_to_list, append_assoc, refl, sym, ◌∙◌, ap, subst, arith}
+use Rattle.std.proofs.Common.{ℕ, zero, suc, ◌<◌, Bool, List, [], ◌∷◌, ◌++◌, fold, filter, flat_map, filter_map, length, get_or, set, swap, not, if◌then◌else◌, IsPermutation, Option, option_to_list, append_assoc, ap, subst, arith}
 use Rattle.std.proofs.lemmas.List.Sorted.{IsPermutation-refl, IsPermutation-trans, IsPermutation-keeps, IsPermutation-append, IsPermutation-append_left, IsPermutation-append_right, IsPermutation-append_comm, list_any-IsPermutation}
 use Rattle.std.proofs.lemmas.List.Elements.{filter_agree}
 use Rattle.std.specs.List.{list_any}
 use Rattle.alg_model.specs.declared.pattern.TriplePat.{TriplePat}
 use Rattle.alg_model.specs.Row.{Row, unbound, are_compatible, merged, join, without_partner, left_join}
 use Rattle.alg_model.specs.Pattern.{Algebra, Basic, Joined, Optional}
-use Rattle.alg_model.specs.Eval.{Reading, match_of, matches_of, bgp_rows, eval}
+use Rattle.alg_model.specs.Eval.{Reading, match_of, matches_of, eval}
 use Rattle.alg_model.proofs.Lists.{filter_map_as_flat_map, filter_as_flat_map}
 
 module _ {X Y : Type 0} (f : X → List Y) where
@@ -29,7 +29,7 @@ module _ {X Y : Type 0} (f : X → List Y) where
       let z = get_or xs j d in
       IsPermutation-trans (flat_map f (x ∷ y ∷ xs)) (flat_map f (y ∷ x ∷ xs)) (flat_map f (z ∷ y ∷ set xs j x)) (alike_turned x y xs)
       (IsPermutation-trans (flat_map f (y ∷ x ∷ xs)) (flat_map f (y ∷ z ∷ set xs j x)) (flat_map f (z ∷ y ∷ set xs j x))
-        (alike_below y (x ∷ xs) (z ∷ set xs j x) (alike_exchanged x xs j d (omega arith))) (alike_turned y z (set xs j x)))
+      (alike_below y (x ∷ xs) (z ∷ set xs j x) (alike_exchanged x xs j d (omega arith))) (alike_turned y z (set xs j x)))
 
   alike_swapped : (xs : List X) (i j : ℕ) (d : X) → i < length xs → j < length xs → Alike xs (set (set xs i (get_or xs j d)) j (get_or xs i d))
   alike_swapped [] i j d p q = absurd (omega arith)

@@ -1,4 +1,4 @@
--- The limits of a query. They are this project's, and no standard's; the sections of the words are those of `Pattern`.
+-- The limits of a query. They are this project's own, and no standard's.
 use Rattle.std.specs.Prelude.{◌≡◌, ◌≢◌, ℕ, ◌+◌, ◌<◌, ◌≤◌, List, ◌++◌, map, length, All, AllPairs, IsUtf8}
 use Rattle.std.specs.List.{range_with_len}
 use Rattle.alg_model.specs.declared.pattern.TriplePat.{TriplePat}

@@ -188,7 +188,14 @@ fn two_patterns_share_a_variable(rt: HostRuntime) -> Result<(), Fail> {
 #[test]
 fn a_variable_stands_twice(rt: HostRuntime) -> Result<(), Fail> {
     let triples = [["<a>", "<p>", "<b>"], ["<c>", "<p>", "<c>"]];
-    expect_rows(&rt, rt.alloc(), 1, &[["?0", "<p>", "?0"]], &triples, &["<c>"])
+    expect_rows(
+        &rt,
+        rt.alloc(),
+        1,
+        &[["?0", "<p>", "?0"]],
+        &triples,
+        &["<c>"],
+    )
 }
 
 #[test]
@@ -203,7 +210,12 @@ fn constants_alone(rt: HostRuntime) -> Result<(), Fail> {
 #[test]
 fn no_common_variable_gives_each_pair(rt: HostRuntime) -> Result<(), Fail> {
     let patterns = [["?0", "<p>", "?1"], ["?2", "<p>", "?3"]];
-    let want = ["<a><b><a><b>", "<a><b><b><c>", "<b><c><a><b>", "<b><c><b><c>"];
+    let want = [
+        "<a><b><a><b>",
+        "<a><b><b><c>",
+        "<b><c><a><b>",
+        "<b><c><b><c>",
+    ];
     expect_rows(&rt, rt.alloc(), 4, &patterns, &CHAIN, &want)
 }
 
