@@ -1,30 +1,16 @@
 -- Each row of a pattern has one cell for each variable.
 use Rattle.std.proofs.Common.{◌≡◌, ℕ, Bool, true, false, List, [], ◌∷◌, fold, All, length, Option, Some, None, IfSome, if◌then◌else◌, not, zip, ◌∙◌, arith}
 use Rattle.std.proofs.lemmas.List.{length-map, length-replicate, length-set}
-use Rattle.std.proofs.lemmas.List.Elements.{All-nil, All-cons, All-head, All-tail, All-append, All-filter}
+use Rattle.std.proofs.lemmas.List.Elements.{All-nil, All-cons, All-append, All-filter}
 use Rattle.std.proofs.lemmas.Slice.Zip.{length-zip}
-use Rattle.std.specs.List.{filter_map, flat_map, list_any, cons_option}
+use Rattle.std.specs.List.{filter_map, list_any}
 use Rattle.alg_model.specs.declared.pattern.Place.{Place}
 use Rattle.alg_model.specs.declared.pattern.Place.TheVariants as places
 use Rattle.alg_model.specs.declared.pattern.TriplePat.{TriplePat}
 use Rattle.alg_model.specs.Row.{Row, unbound, single, are_compatible, merge, merge_cells, merged, both_rows, join, without_partner, left_join}
 use Rattle.alg_model.specs.Pattern.{Algebra, Basic, Joined, Optional}
+use Rattle.alg_model.proofs.Lists.{All-filter_map, All-flat_map}
 use Rattle.alg_model.specs.Eval.{Reading, place_row, match_of, matches_of, eval}
-
--- what f gives has Q, where f gives only such of what has P
-pub All-filter_map : {X Y : Type 0} (f : X → Option Y) (P : X → Type 0) (Q : Y → Type 0) → ((x : X) → P x → IfSome (f x) Q) → (xs : List X) → All P xs → All Q (filter_map f xs)
-All-filter_map f P Q gives [] all = All-nil Q
-All-filter_map f P Q gives (x ∷ xs) all =
-    let rest = All-filter_map f P Q gives xs (All-tail P x xs all) in
-    elim (f x) as (λ o. IfSome o Q → All Q (cons_option o (filter_map f xs))) [
-      | None ↦ λ _. rest
-      | Some y ↦ λ h. All-cons Q y (filter_map f xs) h rest
-    ] (gives x (All-head P x xs all))
-
-pub All-flat_map : {X Y : Type 0} (f : X → List Y) (P : X → Type 0) (Q : Y → Type 0) → ((x : X) → P x → All Q (f x)) → (xs : List X) → All P xs → All Q (flat_map f xs)
-All-flat_map f P Q gives [] all = All-nil Q
-All-flat_map f P Q gives (x ∷ xs) all =
-    All-append Q (f x) (flat_map f xs) (gives x (All-head P x xs all)) (All-flat_map f P Q gives xs (All-tail P x xs all))
 
 -- the row has n cells
 abbrev pub HasWidth : {V : Type 0} → ℕ → Row V → Type 0

@@ -1,4 +1,6 @@
 pub mod Answers
 pub mod Eval
+pub mod Limits
 pub mod Pattern
 pub mod Row
+pub mod Solution

@@ -1,10 +1,11 @@
-ghost use Rattle.std.specs.Prelude.{◌≡◌, ◌≢◌, ◌==◌, ◌++◌, length, All, AllPairs, IsPermutation, IfOk, OnOk};
+ghost use Rattle.std.specs.Prelude.{◌≡◌, ◌≢◌, ◌==◌, ◌++◌, List, length, All, AllPairs, IsPermutation, IfOk, OnOk};
 ghost use Rattle.std.specs.Option.{option_to_list};
 ghost use Rattle.std.specs.Cmp.Lexicographic.{pointwise};
 ghost use Rattle.std.specs.List.{filter_map};
 ghost use Rattle.alg_model.specs.Row.{both_rows, merged, join};
-ghost use Rattle.alg_model.specs.Pattern.{HasVarsBelow, algebra_of};
+ghost use Rattle.alg_model.specs.Pattern.{Basic, HasVarsBelow, algebra_of};
 ghost use Rattle.alg_model.specs.Eval.{as_terms, place_row, match_of, matches_of, bgp_rows, eval};
+ghost use Rattle.alg_model.specs.Solution.{AreSolutions};
 
 use crate::row::Row;
 use crate::{Pattern, Place, RowList, TriplePat};
@@ -23,6 +24,8 @@ pub fn eval_plain(
     requires each_once { AllPairs (λ t u. t ≢ u) triples.now }
     ensures rows { IfOk result (λ rows. IsPermutation (eval as_terms vars (algebra_of pattern.now) triples.now) rows) }
     ensures width { IfOk result (λ rows. All (λ row. length row ≡ vars) rows) }
+    ensures solutions { (patterns : List TriplePat) → algebra_of pattern.now ≡ Basic patterns →
+        IfOk result (AreSolutions as_terms vars patterns triples.now) }
 {
     let rows = pattern_rows(alloc, pattern, vars, triples)?;
     Ok(RowList::from_rows(rows))

@@ -1,7 +1,7 @@
 use Rattle.std.proofs.Common.{ℕ, ◌==◌, ◌∙◌, List, ap, sym}
 use Rattle.std.specs.Cmp.Lexicographic.{pointwise}
 use Rattle.std.specs.List.{position}
-use Rattle.alg_model.proofs.Lists.{position-map}
+use Rattle.alg_model.proofs.Places.{position-map}
 use Rattle.alg_model.proofs.query.Names.position.Goals as goal
 
 pub returns : goal.returns

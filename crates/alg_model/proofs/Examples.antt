@@ -1,0 +1,128 @@
+-- Worked examples, by computation: small patterns over a few triples, a solution, and queries within the limits.
+use Rattle.std.proofs.Common.{◌≡◌, ◌≢◌, ℕ, zero, suc, ◌<◌, List, [], ◌∷◌, get_or, All, Any, IsUtf8, IsAscii, Some, None, false, codes, refl, sym, ◌∙◌, ap, arith, lit≤, lit<}
+use Rattle.std.proofs.lemmas.List.Elements.{All-nil, All-cons, All-from_recursion}
+use Rattle.std.proofs.lemmas.Str.{IsUtf8-from_ascii}
+use Rattle.bm_term.specs.declared.triple.Triple.{Triple}
+use Rattle.alg_model.specs.declared.pattern.Place.{Place}
+use Rattle.alg_model.specs.declared.pattern.Place.TheVariants as places
+use Rattle.alg_model.specs.declared.pattern.TriplePat.{TriplePat}
+use Rattle.alg_model.specs.declared.pattern.Pattern.TheVariants as patterns
+use Rattle.alg_model.specs.declared.query.Query.{Query}
+use Rattle.alg_model.specs.Pattern.{Basic, Joined, Optional}
+use Rattle.alg_model.specs.Eval.{as_terms, eval}
+use Rattle.alg_model.specs.Solution.{BindsJust, Makes, IsSolution}
+use Rattle.alg_model.specs.Limits.{KeepsLimits}
+use Rattle.alg_model.proofs.Lists.{Contains-head, Contains-single, AllPairs-append, AllPairs-option}
+
+abbrev a : List ℕ
+a = codes "<a>"
+
+abbrev b : List ℕ
+b = codes "<b>"
+
+abbrev c : List ℕ
+c = codes "<c>"
+
+abbrev p : List ℕ
+p = codes "<p>"
+
+abbrev triple : List ℕ → List ℕ → Triple
+triple subject object = record { subject = subject; predicate = p; object = object }
+
+abbrev x : Place
+x = places.Var (record { 0 = 0 })
+
+abbrev y : Place
+y = places.Var (record { 0 = 1 })
+
+abbrev z : Place
+z = places.Var (record { 0 = 2 })
+
+abbrev term : List ℕ → Place
+term text = places.Term text
+
+abbrev pattern : Place → Place → ℕ → TriplePat
+pattern subject object number = record { subject = subject; predicate = places.Term p; object = object; number = number }
+
+-- ?x p ?y . ?y p ?z over (a p b), (b p c): the one row a b c
+two_patterns : eval as_terms 3 (Basic (pattern x y 1 ∷ pattern y z 2 ∷ [])) (triple a b ∷ triple b c ∷ []) ≡ (Some a ∷ Some b ∷ Some c ∷ []) ∷ []
+two_patterns = refl
+
+-- constants alone that are a triple: the one row that binds nothing
+constants_found : eval as_terms 1 (Basic (pattern (term a) (term b) 1 ∷ [])) (triple a b ∷ triple b c ∷ []) ≡ (None ∷ []) ∷ []
+constants_found = refl
+
+-- constants alone that are no triple: no row
+constants_missing : eval as_terms 1 (Basic (pattern (term a) (term c) 1 ∷ [])) (triple a b ∷ triple b c ∷ []) ≡ []
+constants_missing = refl
+
+-- no triple pattern: the one row that binds nothing
+no_pattern : eval as_terms 2 (Basic []) (triple a b ∷ []) ≡ (None ∷ None ∷ []) ∷ []
+no_pattern = refl
+
+-- ?x p ?x over (a p b), (c p c): the one row c
+repeated_variable : eval as_terms 1 (Basic (pattern x x 1 ∷ [])) (triple a b ∷ triple c c ∷ []) ≡ (Some c ∷ []) ∷ []
+repeated_variable = refl
+
+-- {?x p ?y} OPTIONAL {?y p ?z}: the row a b finds a partner, and the row b c none
+optional_part : eval as_terms 3 (Optional (Basic (pattern x y 1 ∷ [])) (Basic (pattern y z 2 ∷ []))) (triple a b ∷ triple b c ∷ []) ≡ (Some a ∷ Some b ∷ Some c ∷ []) ∷ (Some b ∷ Some c ∷ None ∷ []) ∷ []
+optional_part = refl
+
+-- the Join of two patterns without a common variable: each pair
+cross_product : eval as_terms 2 (Joined (Basic (pattern x (term b) 1 ∷ [])) (Basic (pattern y (term c) 2 ∷ []))) (triple a b ∷ triple b c ∷ triple c b ∷ []) ≡ (Some a ∷ Some b ∷ []) ∷ (Some c ∷ Some b ∷ []) ∷ []
+cross_product = refl
+
+all-single : {X : Type 0} (P : X → Type 0) (item : X) → P item → All P (item ∷ [])
+all-single P item h = All-cons P item [] h (All-nil P)
+
+-- ---- solutions
+
+binds_x : BindsJust (Some a ∷ []) (0 ∷ [])
+binds_x zero = (λ _. Contains-head 0 [], λ _. refl)
+binds_x (suc k) = (λ some. cc, λ at. let wrong = Contains-single 0 (suc k) at in cc)
+
+-- ?x p b over (a p b): the row a is a solution
+a_solution : IsSolution as_terms 1 (pattern x (term b) 1 ∷ []) (triple a b ∷ []) (Some a ∷ [])
+a_solution = record {
+  width = refl;
+  binds = binds_x;
+  made = all-single (λ triple_pattern. Any (Makes as_terms (Some a ∷ []) triple_pattern) (triple a b ∷ [])) (pattern x (term b) 1)
+      (0, triple a b, lit< tt, refl, record { subject = refl; predicate = refl; object = refl });
+}
+
+-- a row that binds a further variable is none
+not_a_solution : ¬ IsSolution as_terms 2 (pattern x (term b) 1 ∷ []) (triple a b ∷ []) (Some a ∷ Some b ∷ [])
+not_a_solution is = let wrong = Contains-single 0 1 ((is.binds 1).0 refl) in cc
+
+-- ---- limits
+
+abbrev query : List (List ℕ) → Query
+query names = record { names = names; pattern = patterns.Bgp (pattern x y 1 ∷ pattern y x 2 ∷ []); columns = record { 0 = 1 } ∷ []; distinct = false }
+
+ascii_letter : (letter : ℕ) → letter < 128 → IsAscii (letter ∷ [])
+ascii_letter letter low zero = low
+ascii_letter letter low (suc i) = lit< tt
+
+one_letter : (letter : ℕ) → letter < 128 → IsUtf8 (letter ∷ [])
+one_letter letter low = IsUtf8-from_ascii (letter ∷ []) (ascii_letter letter low)
+
+x_is_not_y : codes "x" ≢ codes "y"
+x_is_not_y same = let letters : ◌≡◌ {A = ℕ} 120 121 = ap (λ name. get_or name 0 0) same in omega arith
+
+below_two : (k d : ℕ) → k < 4 → get_or (0 ∷ 1 ∷ 1 ∷ 0 ∷ []) k d < 2
+below_two k d within = All-from_recursion (λ var. var < 2) (0 ∷ 1 ∷ 1 ∷ 0 ∷ []) (lit< tt, (lit< tt, (lit< tt, (lit< tt, tt)))) k d within
+
+two_names : KeepsLimits (query (codes "x" ∷ codes "y" ∷ []))
+two_names = record {
+  few_names = lit≤ tt;
+  names_are_text = All-cons IsUtf8 (codes "x") (codes "y" ∷ []) (one_letter 120 (lit< tt)) (all-single IsUtf8 (codes "y") (one_letter 121 (lit< tt)));
+  names_differ = AllPairs-append (λ first second. first ≢ second) (codes "x" ∷ []) (codes "y" ∷ []) (AllPairs-option (λ first second. first ≢ second) (Some (codes "x"))) (AllPairs-option (λ first second. first ≢ second) (Some (codes "y")))
+      (λ first second hx hy same. x_is_not_y (Contains-single (codes "x") first hx ∙ same ∙ sym (Contains-single (codes "y") second hy)));
+  pattern = record { vars_below = below_two; few_optional = lit≤ tt; few_triples = lit≤ tt; numbered = refl };
+  columns_below = all-single (λ column. column.0 < 2) (record { 0 = 1 }) (lit< tt);
+  columns_differ = AllPairs-option (λ first second. first ≢ second) (Some (record { 0 = 1 }));
+}
+
+-- a name that stands twice is against them
+same_name : ¬ KeepsLimits (query (codes "x" ∷ codes "x" ∷ []))
+same_name keeps = keeps.names_differ 0 1 [] (lit< tt) (lit< tt) refl
