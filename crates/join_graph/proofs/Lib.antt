@@ -6,3 +6,4 @@ pub mod Cores
 pub mod Removals
 pub mod Joins
 pub mod Parts
+mod Examples

@@ -1,4 +1,7 @@
-ghost use Rattle.std.specs.Prelude.{ℕ, ◌≤◌, ◌↔◌, IsTrue};
+//! Whether chains of neighbours join the patterns of a list.
+
+ghost use Rattle.std.specs.Prelude.{◌≡◌, ℕ, ◌≤◌, ◌↔◌, ◌⊎◌, IsTrue};
+ghost use Rattle.join_graph.specs.Sets.{Meets};
 ghost use Rattle.join_graph.specs.Members.{HasVariable};
 ghost use Rattle.join_graph.specs.Chains.{IsConnected, EachMeets, joined_to, spread_from};
 
@@ -21,11 +24,18 @@ fn all_meet(sets: &[u64], reached: u64) -> bool
     ensures { IsTrue result ↔ EachMeets sets.now (HasVariable reached) }
 {
     for set in sets {
-        if *set != 0 && !meet(*set, reached) {
+        if !is_reached(*set, reached) {
             return false;
         }
     }
     true
+}
+
+/// Whether the pattern has no variable, or one of these.
+fn is_reached(set: u64, reached: u64) -> bool
+    ensures { IsTrue result ↔ (set ≡ 0) ⊎ Meets (HasVariable set) (HasVariable reached) }
+{
+    set == 0 || meet(set, reached)
 }
 
 /// The variables that a chain joins to one of these.

@@ -15,3 +15,6 @@ mod variables;
 pub use nodes::is_simple;
 pub use removal::strip;
 pub use steps::{Order, Step};
+
+#[cfg(test)]
+mod tests;

@@ -1,15 +1,18 @@
-ghost use Rattle.std.specs.Prelude.{◌≡◌, ℕ, ◌<◌, ◌≤◌, ◌↔◌, length, List, IsTrue, IfNone, IfSome, MatchOption};
+//! Removal by the rule, until the core is left.
+
+ghost use Rattle.std.specs.Prelude.{◌≡◌, ℕ, ◌≤◌, ◌↔◌, List, length, IsTrue, IfSome, IfNone, MatchOption};
+ghost use Rattle.join_graph.specs.Sets.{HasSize};
 ghost use Rattle.join_graph.specs.Members.{Member, IsMember};
-ghost use Rattle.join_graph.specs.Core.{core_of, neighbours_in, EachHasTwoNeighbours, IsCore, IsForest, IsPart};
-ghost use Rattle.join_graph.specs.Removal.{IsLeaf, IsNext, IsRemoval, IsRemovalOrder, LeavesCore, RemovesAll};
-ghost use Rattle.join_graph.specs.Sets.{HasTwo, HasSize};
+ghost use Rattle.join_graph.specs.Core.{EachHasTwoNeighbours, core_of, IsCore, IsForest, IsPart};
+ghost use Rattle.join_graph.specs.Removal.{IsNext, IsRemoval, IsRemovalOrder, LeavesCore, RemovesAll};
 ghost use Rattle.join_graph.specs.Left.{IsKept, HasTwoIfKept};
 
-use crate::left::{Left, MAX_PATTERNS};
+use crate::left::Left;
 use crate::steps::{Order, Step};
-use crate::variables::has;
+use crate::variables::variables_of;
 
-/// The order in which leaves are removed, and how many members the core has.
+/// Removes, again and again, a member that has at most one neighbour left: the first pattern of this kind, and
+/// where there is none, the least variable of this kind. What can never be removed is the core.
 pub fn strip(sets: &[u64]) -> Order
     requires { length sets.now ≤ 256 }
 
@@ -25,7 +28,7 @@ pub fn strip(sets: &[u64]) -> Order
     ensures part_of_forest { (part : List ℕ) → IsPart part sets.now → IsForest sets.now → IsForest part }
 {
     let mut left = Left::all(sets);
-    let mut order = Order::new(sets.len() as u16 + left.variables.count_ones() as u16);
+    let mut order = Order::new(count_members(sets));
     while let Some(step) = next_step(sets, &left) {
         left.remove(step);
         order.push(step);
@@ -33,7 +36,7 @@ pub fn strip(sets: &[u64]) -> Order
     order
 }
 
-/// Whether all members can be removed.
+/// Whether the core is empty.
 pub(crate) fn is_forest(sets: &[u64]) -> bool
     requires { length sets.now ≤ 256 }
     ensures { IsTrue result ↔ IsForest sets.now }
@@ -41,8 +44,15 @@ pub(crate) fn is_forest(sets: &[u64]) -> bool
     strip(sets).core() == 0
 }
 
-/// The member to remove next: the first pattern left that has at most one neighbour left, and where there is
-/// none, the least such variable.
+fn count_members(sets: &[u64]) -> u16
+    requires { length sets.now ≤ 256 }
+    ensures members { HasSize (IsMember sets.now) result }
+    ensures bound { result ≤ 320 }
+{
+    sets.len() as u16 + variables_of(sets).count_ones() as u16
+}
+
+/// The member to remove next.
 fn next_step(sets: &[u64], left: &Left) -> Option<Step>
     requires few { length sets.now ≤ 256 }
     requires members { (m : Member) → IsKept left.now m → IsMember sets.now m }
@@ -54,30 +64,32 @@ fn next_step(sets: &[u64], left: &Left) -> Option<Step>
     next_variable(sets, left)
 }
 
+/// The first pattern that is a leaf.
 fn next_pattern(sets: &[u64], left: &Left) -> Option<Step>
     requires few { length sets.now ≤ 256 }
     requires members { (m : Member) → IsKept left.now m → IsMember sets.now m }
     ensures found { IfSome result (IsNext sets.now (IsKept left.now)) }
     ensures none { IfNone result ((p : ℕ) → HasTwoIfKept sets.now left.now (Step.Pattern p)) }
 {
-    for p in 0..sets.len() {
-        let step = Step::Pattern(p as u16);
-        if left.patterns[p] && left.is_leaf(sets, step) {
+    for place in 0..sets.len() {
+        let step = Step::Pattern(place as u16);
+        if left.is_leaf(sets, step) {
             return Some(step);
         }
     }
     None
 }
 
+/// The least variable that is a leaf, where no pattern is one.
 fn next_variable(sets: &[u64], left: &Left) -> Option<Step>
     requires few { length sets.now ≤ 256 }
     requires members { (m : Member) → IsKept left.now m → IsMember sets.now m }
     requires no_pattern { (p : ℕ) → HasTwoIfKept sets.now left.now (Step.Pattern p) }
     ensures { MatchOption result (EachHasTwoNeighbours sets.now (IsKept left.now)) (IsNext sets.now (IsKept left.now)) }
 {
-    for v in 0..64 {
-        let step = Step::Variable(v);
-        if has(left.variables, v) && left.is_leaf(sets, step) {
+    for variable in 0..64 {
+        let step = Step::Variable(variable);
+        if left.is_leaf(sets, step) {
             return Some(step);
         }
     }

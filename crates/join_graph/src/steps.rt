@@ -1,3 +1,5 @@
+//! The removal of a member, and the order of removals.
+
 ghost use Rattle.std.specs.Prelude.{◌≡◌, ◌+◌, ◌<◌, ◌≤◌, [], ◌∷◌, ◌++◌, Some, length, slice_get};
 
 use std::marker::Model;
@@ -9,8 +11,11 @@ pub enum Step {
     Variable(u8),
 }
 
-/// As many steps as there can be: 256 patterns and 64 variables.
-const MAX_STEPS: usize = 320;
+/// How many patterns a list may have.
+pub(crate) const MAX_PATTERNS: usize = 256;
+
+/// As many steps as there can be: a step for each pattern, and one for each of 64 variables.
+const MAX_STEPS: usize = MAX_PATTERNS + 64;
 
 /// The members that were removed, in their order, and how many were not.
 #[derive(Drop)]

@@ -1,11 +1,15 @@
-use Rattle.std.proofs.Common.{arith}
-use Rattle.std.proofs.lemmas.Bool.{both_ways, false≢true}
+use Rattle.std.proofs.Common.{arith, inl, inr, slice_index}
+use Rattle.std.proofs.lemmas.Bool.{both_ways, cases_eq, false≢true}
 use Rattle.join_graph.proofs.Bits.{HasVariable-some}
 use Rattle.join_graph.proofs.chains.all_meet.Goals as goal
 
-pub returns-then-not-meet : goal.returns-then-not-meet
-returns-then-not-meet c =
-    let at = HasVariable-some _ (omega (arith, c.type_inv.sets c.loop-set.set-index)) c.if-set-ne0.true in (
+pub returns-then-not-is_reached : goal.returns-then-not-is_reached
+returns-then-not-is_reached c =
+    let i = c.loop-set.set-index in
+    let set = slice_index c.args.sets.now i in (
       λ e. absurd (false≢true e),
-      λ each. absurd (both_ways _ c.if-not-meet.true (c.meet.ensures.1 (each c.loop-set.set-index at.0 at.1))),
+      λ each. absurd (both_ways _ c.if-not-is_reached.true (c.is_reached.ensures.1 (elim (cases_eq set 0) [
+        | inl e ↦ inl e
+        | inr ne ↦ let at = HasVariable-some set (omega (arith, c.type_inv.sets i)) ne in inr (each i at.0 at.1)
+      ]))),
     )

@@ -1,19 +1,14 @@
 use Rattle.join_graph.specs.Left.{IsKept}
 use Rattle.join_graph.proofs.Sizes.{HasSize-positive}
-use Rattle.join_graph.proofs.Bits.{HasSize-ones}
-use Rattle.join_graph.proofs.Counts.{HasSize-members}
 use Rattle.join_graph.proofs.Cores.{core_is_largest}
 use Rattle.join_graph.proofs.Removals.{IsUnderWay-start, IsUnderWay-step, IsUnderWay-end, IsLeaf-from_next, IsRemoval-from_order, IsRemovalOrder-unique, LeavesCore-from_removal, IsForest-from_core}
 use Rattle.join_graph.proofs.Parts.{IsForest-part}
-use Rattle.join_graph.specs.declared.steps.Step.TheVariants.{Variable}
 use Rattle.join_graph.proofs.removal.strip.Goals as goal
 
 pub loop-step-init : goal.loop-step-init
 loop-step-init c =
-    let sets = c.args.sets.now in
-    let left = c.all-left.result in
-    let size = HasSize-members sets left.variables _ (λ v. c.all-left.ensures (Variable v)) (HasSize-ones left.variables) in
-    IsUnderWay-start sets (IsKept left) c.new-order.result c.new-order.ensures.steps c.all-left.ensures (rw c.new-order.ensures.core size)
+    IsUnderWay-start c.args.sets.now (IsKept c.all-left.result) c.new-order.result c.new-order.ensures.steps c.all-left.ensures
+    (rw c.new-order.ensures.core c.count_members.ensures.members)
 
 pub push-requires : goal.push-requires
 push-requires c =

@@ -4,5 +4,5 @@ use Rattle.join_graph.specs.Left.{IsKept}
 use Rattle.join_graph.proofs.Counts.{HasInSet}
 use Rattle.join_graph.proofs.left.Left.patterns_with.Given as goal
 
-abbrev pub invariant-loop-p : goal.invariant-loop-p
-invariant-loop-p l = (l.count ≤ l.p) × HasSize (λ p. (p < l.p) × HasInSet l.sets (IsKept l.self) l.v p) l.count
+abbrev pub invariant-loop-place : goal.invariant-loop-place
+invariant-loop-place l = (l.count ≤ l.place) × HasSize (λ p. (p < l.place) × HasInSet l.sets (IsKept l.self) l.variable p) l.count
