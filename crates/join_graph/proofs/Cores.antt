@@ -33,6 +33,7 @@ no_leaf sets set left m two to h one =
 
 -- the core is the largest such set
 pub core_is_largest : (sets : List ℕ) → IsCore sets (core_of sets)
+unfolding core_of
 core_is_largest sets =
     record {
       two_each = λ m h. HasTwo-larger sets _ (core_of sets) m (λ n pass. (h.0, h.1, pass)) (h.1 m h.2);

@@ -51,10 +51,11 @@ two_around (Variable (suc zero)) h = record { first = Pattern 0; second = Patter
 two_around (Variable (suc (suc v))) h = absurd (false≢true h)
 
 two_shared_are_core : core_of (3 ∷ 3 ∷ []) (Pattern 0)
-unfolding first_two
+unfolding first_two core_of
 two_shared_are_core = (first_two, two_around, refl)
 
 two_shared_are_no_forest : ¬ IsForest (3 ∷ 3 ∷ [])
+unfolding IsForest
 two_shared_are_no_forest forest = forest (Pattern 0) two_shared_are_core
 
 -- one pattern alone is a forest: each of its variables has one neighbour
@@ -64,6 +65,7 @@ around_variable set v (Pattern (suc p)) near = absurd (HasVariable-zero v near)
 around_variable set v (Variable w) near = absurd near
 
 alone_is_forest : (set : ℕ) → IsForest (set ∷ [])
+unfolding core_of IsForest
 alone_is_forest set m core = at m core.2
   where
     at_variable : (v : ℕ) → ¬ passing core.0 (Variable v)

@@ -1,11 +1,11 @@
 -- Chains of neighbours: turned, put together, and followed within a set that is closed.
-use Rattle.std.proofs.Common.{ℕ, ◌+◌, ◌<◌, ◌≤◌, ◌⊎◌, ◌↔◌, inl, inr, arith, List, length, slice_index, bit_or}
+use Rattle.std.proofs.Common.{◌≡◌, ℕ, ◌+◌, ◌<◌, ◌≤◌, ◌⊎◌, ◌↔◌, inl, inr, arith, List, length, slice_index, bit_or}
 use Rattle.std.proofs.lemmas.Bool.{cases_eq}
 use Rattle.join_graph.specs.declared.steps.Step.TheVariants.{Pattern, Variable}
 use Rattle.join_graph.specs.Sets.{Meets}
 use Rattle.join_graph.specs.Members.{Member, HasVariable, PatternHas, IsNeighbour}
 use Rattle.join_graph.specs.Chains.{IsJoined, here, next, IsConnected, EachMeets, joined_to, spread_from}
-use Rattle.join_graph.proofs.Bits.{HasVariable-or}
+use Rattle.join_graph.proofs.Bits.{HasVariable-zero, HasVariable-or}
 use Rattle.join_graph.proofs.Members.{IsNeighbour-sym, PatternHas-place}
 
 IsJoined-trans : {sets : List ℕ} {m n end : Member} → IsJoined sets m n → IsJoined sets n end → IsJoined sets m end
@@ -54,8 +54,15 @@ joined_to-pattern {sets} {p} {v} (next {n} near rest) = from n near rest
     from (Pattern q) near rest = absurd near
     from (Variable w) near rest = (w, near, rest)
 
+-- a list of patterns without variables is connected
+pub IsConnected-empty : (sets : List ℕ) → ((p : ℕ) → p < length sets → slice_index sets p ≡ 0) → IsConnected sets
+unfolding IsConnected
+IsConnected-empty sets none =
+    λ p q v w has has'. absurd (HasVariable-zero v (rw (none p (PatternHas-place sets p v has)) at has))
+
 -- a list is connected where each pattern has a variable that is joined to one of some pattern's
 pub IsConnected-from_meets : (sets : List ℕ) (p v : ℕ) → PatternHas sets p v → EachMeets sets (joined_to sets (PatternHas sets p)) ↔ IsConnected sets
+unfolding IsConnected
 IsConnected-from_meets sets p v has = (
   λ each q r w x has' has''. IsJoined-trans (IsJoined-sym (to each q w has')) (to each r x has''),
   λ connected q w has'.

@@ -7,7 +7,7 @@ use Rattle.std.proofs.lemmas.Bool.Decides.{Decides-below_or}
 use Rattle.join_graph.specs.declared.steps.Step.TheVariants.{Pattern, Variable}
 use Rattle.join_graph.specs.Sets.{HasTwo}
 use Rattle.join_graph.specs.Members.{Member, PatternHas, IsMember, IsNeighbour}
-use Rattle.join_graph.specs.Core.{neighbours_in, EachHasTwoNeighbours, passing, IsForest, IsPart}
+use Rattle.join_graph.specs.Core.{neighbours_in, EachHasTwoNeighbours, passing, core_of, IsForest, IsPart}
 use Rattle.join_graph.proofs.Members.{PatternHas-place}
 use Rattle.join_graph.proofs.Cores.{IsMember-from_two}
 
@@ -85,6 +85,7 @@ module _ (part whole : List ℕ) (is_part : IsPart part whole) (test : Member �
       })
 
 pub IsForest-part : (part whole : List ℕ) → IsPart part whole → IsForest whole → IsForest part
+unfolding core_of IsForest
 IsForest-part part whole is_part forest =
     λ m core.
     forest (moved is_part.place m)

@@ -34,6 +34,7 @@ IsLeft-take sets set steps two leaves (suc i) le m h =
 
 -- whatever the order, what is left is the core
 pub LeavesCore-from_removal : (sets : List ℕ) (steps : List Member) → IsRemoval sets steps → LeavesCore sets steps
+unfolding core_of
 LeavesCore-from_removal sets steps removal =
     λ m. (
       λ h. (
@@ -46,6 +47,7 @@ LeavesCore-from_removal sets steps removal =
 
 -- a list is a forest exactly where every member is removed
 pub IsForest-from_core : (sets : List ℕ) (steps : List Member) → LeavesCore sets steps → IsForest sets ↔ RemovesAll sets steps
+unfolding IsForest
 IsForest-from_core sets steps leaves_core = (
   λ forest m is_member. Contains-from_not_left sets steps m is_member (λ left. forest m ((leaves_core m).0 left)),
   λ all m in_core. let left = (leaves_core m).1 in_core in left.1 (all m left.0),

@@ -10,7 +10,7 @@ pub data IsJoined (sets : List ℕ) : Member → Member → Type 0 where
   next : {m n end : Member} → IsNeighbour sets m n → IsJoined sets n end → IsJoined sets m end
 
 -- a chain of neighbours joins any two patterns that have a variable
-abbrev pub IsConnected : List ℕ → Type 0
+unfoldable pub IsConnected : List ℕ → Type 0
 IsConnected sets = (p q v w : ℕ) → PatternHas sets p v → PatternHas sets q w → IsJoined sets (Pattern p) (Pattern q)
 
 -- the variables that a chain joins to one of a set

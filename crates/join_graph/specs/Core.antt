@@ -16,7 +16,7 @@ abbrev pub passing : (Member → Bool) → Member → Type 0
 passing test member = IsTrue (test member)
 
 -- the core is the union of all sets in which each member has at least two neighbours
-abbrev pub core_of : List ℕ → Member → Type 0
+unfoldable pub core_of : List ℕ → Member → Type 0
 core_of sets member = (test : Member → Bool) × EachHasTwoNeighbours sets (passing test) × passing test member
 
 -- the core is such a set itself, and so the largest
@@ -25,7 +25,7 @@ pub record IsCore (sets : List ℕ) (core : Member → Type 0) : Type 0 where
   pub largest : (test : Member → Bool) → EachHasTwoNeighbours sets (passing test) → (member : Member) → passing test member → core member
 
 -- the core is empty
-abbrev pub IsForest : List ℕ → Type 0
+unfoldable pub IsForest : List ℕ → Type 0
 IsForest sets = (member : Member) → ¬ core_of sets member
 
 -- each pattern of the part stands in the whole, and different ones at different places

@@ -1,10 +1,11 @@
 use Rattle.std.proofs.Common.{eqb-true, eq-eqb, arith, inl, inr}
 use Rattle.std.proofs.lemmas.Bool.{cases_lt}
-use Rattle.join_graph.specs.Core.{core_of}
+use Rattle.join_graph.specs.Core.{core_of, IsForest}
 use Rattle.join_graph.proofs.Sizes.{HasSize-empty, HasSize-some}
 use Rattle.join_graph.proofs.removal.is_forest.Goals as goal
 
 pub returns : goal.returns
+unfolding IsForest
 returns c =
     let size = c.strip.ensures.core in
     let core = c.core.ensures in (
