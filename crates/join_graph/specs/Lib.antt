@@ -1,0 +1,7 @@
+pub mod Sets
+pub mod Members
+pub mod Core
+pub mod Removal
+pub mod Left
+pub mod Chains
+pub mod Nodes
