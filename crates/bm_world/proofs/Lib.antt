@@ -3,3 +3,4 @@ pub mod Appending
 pub mod WholeFile
 pub mod FileTable
 pub mod Telling
+mod Examples

@@ -1,11 +1,11 @@
 -- A file that is read by several calls.
-use Rattle.std.proofs.Common.{◌≡◌, ℕ, ◌<◌, List, [], ◌++◌, length, take, Vec, Option, None, Some, Ok, Err, IsSome, IsSomeAnd, false, true, refl, sym, ◌∙◌, ap, subst, append_assoc, length-append, arith}
+use Rattle.std.proofs.Common.{◌≡◌, ℕ, ◌<◌, List, [], ◌++◌, length, take, Vec, Option, None, Some, Result, Ok, Err, IsSome, IsSomeAnd, IsErrOf, IfOk, ⊎_elim, inl, inr, vec_len, ◌≤◌, ◌⊎◌, false, true, refl, sym, ◌∙◌, ap, subst, append_assoc, length-append, arith}
 use Rattle.std.proofs.lemmas.List.{append-nil}
 use Rattle.std.specs.declared.alloc.Global.{Global}
 use Rattle.bm_world.specs.declared.reading.ReadEnd.{ReadEnd}
-use Rattle.bm_world.specs.declared.reading.ReadEnd.TheVariants.{TooLong}
+use Rattle.bm_world.specs.declared.reading.ReadEnd.TheVariants.{Fault, TooLong, Memory}
 use Rattle.bm_world.specs.Meanings.{Meanings, file_at}
-use Rattle.bm_world.specs.World.{Step, Takes, NothingIsOpen}
+use Rattle.bm_world.specs.World.{Step, Rose, IsMissing, Takes, NothingIsOpen}
 use Rattle.bm_world.specs.Reading.{IsReadingOf, ReadsAll}
 use Rattle.bm_world.proofs.Steps.{Step-then, Step-weaken}
 
@@ -97,3 +97,16 @@ is_open {a} (Some k) {name} {came} before closed = at a refl
     at None none = let lost : Some k ≡ None = before.silent none in cc
     at (Some m) is = let so_far = before.moves m k is refl in
         let left : Some so_far.left ≡ None = sym (ap (λ (k : Meanings). k.rest) so_far.moved) ∙ closed in cc
+
+-- a longer file, whose calls did not fail, is answered so and in no other way
+pub longer_ends : {name : List ℕ} {limit : ℕ} {m n : Meanings} (before now : ℕ) (result : Result (Vec ℕ Global) ReadEnd) (bytes : List ℕ)
+    → ReadsAll name limit result m n → IfOk result (λ all. vec_len all ≤ limit)
+    → (IsErrOf result Fault → Rose before now ⊎ IsSomeAnd (Some m) (IsMissing name))
+    → file_at m name ≡ Some bytes → limit < length bytes → (Rose before now → ⊥)
+    → (result ≡ Err TooLong) ⊎ (result ≡ Err Memory)
+longer_ends before now (Ok all) bytes reads within fault is longer calm =
+    let same : all.items ≡ bytes = some_once (sym reads.answer ∙ is) in absurd (omega (arith, all.ok.0, ap length same))
+longer_ends before now (Err Fault) bytes reads within fault is longer calm =
+    absurd (⊎_elim calm (λ missing. let none : Some bytes ≡ None = sym is ∙ missing in cc) (fault refl))
+longer_ends before now (Err TooLong) bytes reads within fault is longer calm = inl refl
+longer_ends before now (Err Memory) bytes reads within fault is longer calm = inr refl

@@ -1,0 +1,69 @@
+-- What the definitions say of small cases.
+use Rattle.std.proofs.Common.{◌≡◌, ℕ, ◌-◌, ◌^◌, [], ◌∷◌, true, false, None, Some, Ok, Err, codes, refl, lit≤, arith}
+use Rattle.std.specs.Cmp.Lexicographic.{nat_list_cmp_total}
+use Rattle.std.specs.FinMap.{get-insert}
+use Rattle.bm_world.specs.declared.reading.ReadEnd.TheVariants.{TooLong}
+use Rattle.bm_world.specs.declared.schedule.WorldCall.TheVariants.{Print, Complain}
+use Rattle.bm_world.specs.Meanings.{Meanings, nothing_yet, file_at, with_begun, with_printed, with_written}
+use Rattle.bm_world.specs.World.{Step, Rose, AppendsAll}
+use Rattle.bm_world.specs.Reading.{IsReadingOf}
+use Rattle.bm_world.specs.Schedule.{is_due, after_call}
+use Rattle.bm_world.specs.MemWorld.{raised, Ends}
+
+-- a count rises by one or more, and at its last value it may stand still
+rose_by_one : Rose 3 4
+rose_by_one = lit≤ tt
+
+rose_at_the_last : Rose (2 ^ 64 - 1) (2 ^ 64 - 1)
+rose_at_the_last = lit≤ tt
+
+not_risen : Rose 3 3 → ⊥
+not_risen rose = omega arith
+
+-- a world that tells nothing doesn't tell again
+not_told_again : (m : Meanings) (R : Meanings → Meanings → Type 0) → Step None (Some m) R → ⊥
+not_told_again m R step = let told : Some m ≡ None = step.silent refl in cc
+
+-- two texts are printed after one another
+printed_twice : (with_printed (with_printed nothing_yet (codes "ab")) (codes "c")).printed ≡ codes "abc"
+printed_twice = refl
+
+printed_all : AppendsAll with_printed (codes "ab") (Ok tt) nothing_yet (with_printed nothing_yet (codes "ab"))
+printed_all = refl
+
+printed_a_front : AppendsAll with_printed (codes "ab") (Err (record {})) nothing_yet (with_printed nothing_yet (codes "a"))
+printed_a_front = (1, refl)
+
+-- a file that has been begun is empty, and nothing is written where none is being made
+begun_is_empty : file_at (with_begun nothing_yet (codes "f")) (codes "f") ≡ Some []
+begun_is_empty = get-insert nat_list_cmp_total _ (codes "f") [] (codes "f")
+
+not_written : with_written nothing_yet (codes "ab") ≡ nothing_yet
+not_written = refl
+
+-- of three bytes, a limit of two is passed, and a limit of three isn't
+past_the_limit : IsReadingOf (Some (codes "abc")) 2 (Err TooLong)
+past_the_limit = lit≤ tt
+
+within_the_limit : IsReadingOf (Some (codes "abc")) 3 (Err TooLong) → ⊥
+within_the_limit longer = omega arith
+
+-- the second print fails, whatever else is called between
+due_at_the_second : is_due Print (after_call Complain (after_call Print ((Print, 2) ∷ []))) ≡ true
+due_at_the_second = refl
+
+not_due_at_the_first : is_due Print ((Print, 2) ∷ (Complain, 1) ∷ []) ≡ false
+not_due_at_the_first = refl
+
+never_due_at_0 : is_due Print (after_call Print ((Print, 0) ∷ [])) ≡ false
+never_due_at_0 = refl
+
+-- a scheduled failure raises the count, also where the case is a failure by itself
+scheduled_failure : Ends {T = ℕ} true true (Err (record {})) 0 1
+scheduled_failure = refl
+
+told_failure : Ends {T = ℕ} false true (Err (record {})) 0 0
+told_failure = refl
+
+raised_at_the_last : raised (2 ^ 64 - 1) ≡ 2 ^ 64 - 1
+raised_at_the_last = refl
