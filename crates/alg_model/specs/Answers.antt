@@ -1,6 +1,6 @@
 -- The answers of a query: the rows of its pattern, cut to its columns, in order. SPARQL 1.1 Query, section 18.2.5.
 -- The order of the rows is this project's: column by column, unbound before bound, terms by the bytes of their text.
-use Rattle.std.specs.Prelude.{ℕ, Bool, if◌then◌else◌, List, [], ◌∷◌, map, length, Option, None, slice_index_or}
+use Rattle.std.specs.Prelude.{ℕ, if◌then◌else◌, List, [], ◌∷◌, map, length, None, slice_index_or}
 use Rattle.std.specs.declared.cmp.Ordering.{Ordering}
 use Rattle.std.specs.List.{list_any}
 use Rattle.std.specs.Option.{option_cmp}

@@ -1,10 +1,10 @@
 -- Rows that are projected and sorted are the answers.
-use Rattle.std.proofs.Common.{◌≡◌, ℕ, false, List, Option, length, map, IsPermutation, IsSorted, refl, sym, ◌∙◌, ap, subst}
+use Rattle.std.proofs.Common.{◌≡◌, ℕ, false, List, length, map, IsPermutation, IsSorted, sym, subst}
 use Rattle.std.proofs.lemmas.List.Sorted.{IsPermutation-map, IsPermutation-trans}
 use Rattle.bm_term.specs.declared.triple.Triple.{Triple}
 use Rattle.alg_model.specs.declared.query.Query.{Query}
 use Rattle.alg_model.specs.Row.{Row}
-use Rattle.alg_model.specs.Answers.{row_cmp, project, in_order, answers_of}
+use Rattle.alg_model.specs.Answers.{row_cmp, project, answers_of}
 use Rattle.alg_model.specs.Eval.{as_terms, eval}
 use Rattle.alg_model.specs.Pattern.{algebra_of}
 use Rattle.alg_model.proofs.InOrder.{in_order-is}

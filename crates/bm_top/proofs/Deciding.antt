@@ -1,5 +1,5 @@
 -- The verdict once both files have been read.
-use Rattle.std.proofs.Common.{◌≡◌, ℕ, List, Option, Some, None, Ok, Err, refl, ap}
+use Rattle.std.proofs.Common.{◌≡◌, ℕ, List, Some, None, Err, ap}
 use Rattle.bm_term.specs.Graph.{graph_of}
 use Rattle.alg_model.specs.declared.query.Query.{Query}
 use Rattle.alg_model.specs.Answers.{answers_of}

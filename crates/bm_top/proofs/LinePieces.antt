@@ -1,5 +1,5 @@
 -- A line that is complained piece by piece.
-use Rattle.std.proofs.Common.{◌≡◌, ℕ, zero, suc, ◌+◌, ◌<◌, ◌≤◌, ◌++◌, List, [], ◌∷◌, Bor, length, take, drop, get_or, refl, arith, append_assoc, take-append-drop, drop-cons, add-one, sym, ◌∙◌, ap}
+use Rattle.std.proofs.Common.{◌≡◌, ℕ, zero, suc, ◌+◌, ◌<◌, ◌≤◌, ◌++◌, List, [], ◌∷◌, Bor, length, take, drop, get_or, refl, arith, take-append-drop, drop-cons, sym, ◌∙◌, ap}
 use Rattle.std.proofs.lemmas.Grind.{common_steps, flat_map-append}
 use Rattle.std.proofs.lemmas.List.{take_more, append-nil}
 use Rattle.std.specs.List.{flat_map}
@@ -26,11 +26,11 @@ pieces-whole pieces i h = let whole : take i pieces ≡ pieces = grind (arith, c
 -- what has come, and what is left: a piece and those after it
 pub AppendsUpTo-pieces : (pieces : List (Bor (List ℕ))) (i : ℕ) (d : Bor (List ℕ)) → i < length pieces → (m n : Meanings) → n ≡ with_complained m (all_of (take i pieces)) → AppendsUpTo with_complained (all_of pieces) ((get_or pieces i d).now ++ all_of (drop (suc i) pieces)) m n
 AppendsUpTo-pieces pieces i d h m n moved = record {
-    front = all_of (take i pieces);
-    whole = ap (λ rest. all_of (take i pieces) ++ all_of rest) (sym (drop-cons pieces i d h))
-        ∙ sym (flat_map-append (λ piece. piece.now) (take i pieces) (drop i pieces)) ∙ ap all_of (take-append-drop i pieces);
-    moved = moved;
-  }
+  front = all_of (take i pieces);
+  whole = ap (λ rest. all_of (take i pieces) ++ all_of rest) (sym (drop-cons pieces i d h))
+      ∙ sym (flat_map-append (λ piece. piece.now) (take i pieces) (drop i pieces)) ∙ ap all_of (take-append-drop i pieces);
+  moved = moved;
+}
 
 -- a front of a piece is a front of what begins with it
 front_of : (n : ℕ) (xs ys : List ℕ) → (k : ℕ) × (take k (xs ++ ys) ≡ take n xs)

@@ -1,5 +1,5 @@
 -- The parts of a text, and the first place of the mark.
-use Rattle.std.proofs.Common.{◌≡◌, ℕ, ◌+◌, ◌-◌, ◌<◌, Bool, true, false, not, cond, ◌==◌, nat_lt, ◌≤◌, if◌then◌else◌, List, [], ◌∷◌, length, take, drop, Option, Some, None, is_none, Bor, refl, add_comm, add-one, arith, rules, sym, ◌∙◌, ap}
+use Rattle.std.proofs.Common.{◌≡◌, ℕ, ◌+◌, ◌<◌, true, false, not, cond, ◌==◌, nat_lt, ◌≤◌, if◌then◌else◌, List, [], ◌∷◌, length, take, drop, Option, Some, None, is_none, Bor, refl, add_comm, add-one, arith, ap}
 use Rattle.std.proofs.lemmas.Grind.{common_steps}
 use Rattle.std.proofs.lemmas.Bool.{ltb-true, ltb-false}
 use Rattle.std.specs.List.{prefix_len, position}
@@ -21,8 +21,8 @@ parts_at-mark : (mark : ℕ) (xs : List ℕ) → place_of mark xs < length xs �
 parts_at-mark mark [] h = absurd (omega arith)
 parts_at-mark mark (x ∷ xs) h =
     elim (x == mark) as (λ b. cond (not b) (1 + place_of mark xs) 0 < length (x ∷ xs) →
-        (if b then [] ∷ parts_at mark xs else before_first_part x (parts_at mark xs)) ≡
-            take (cond (not b) (1 + place_of mark xs) 0) (x ∷ xs) ∷ parts_at mark (drop (cond (not b) (1 + place_of mark xs) 0 + 1) (x ∷ xs))) [
+    (if b then [] ∷ parts_at mark xs else before_first_part x (parts_at mark xs)) ≡
+    take (cond (not b) (1 + place_of mark xs) 0) (x ∷ xs) ∷ parts_at mark (drop (cond (not b) (1 + place_of mark xs) 0 + 1) (x ∷ xs))) [
       | true ↦ λ _. refl
       | false ↦ λ h. let ih = parts_at-mark mark xs (omega arith) in rw (take-next, drop-next) (ap (before_first_part x) ih)
     ] h
@@ -32,7 +32,7 @@ parts_at-none : (mark : ℕ) (xs : List ℕ) → length xs ≤ place_of mark xs 
 parts_at-none mark [] h = refl
 parts_at-none mark (x ∷ xs) h =
     elim (x == mark) as (λ b. length (x ∷ xs) ≤ cond (not b) (1 + place_of mark xs) 0 →
-        (if b then [] ∷ parts_at mark xs else before_first_part x (parts_at mark xs)) ≡ (x ∷ xs) ∷ []) [
+    (if b then [] ∷ parts_at mark xs else before_first_part x (parts_at mark xs)) ≡ (x ∷ xs) ∷ []) [
       | true ↦ λ h. absurd (omega arith)
       | false ↦ λ h. ap (before_first_part x) (parts_at-none mark xs (omega arith))
     ] h

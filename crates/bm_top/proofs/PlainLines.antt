@@ -1,5 +1,5 @@
 -- What a plain line spells, part by part.
-use Rattle.std.proofs.Common.{◌≡◌, ℕ, Bool, true, false, ◌==◌, ◌↔◌, if◌then◌else◌, IsSome, List, [], ◌∷◌, Option, Some, None, MatchOption, IfSome, refl, sym, ◌∙◌, ap}
+use Rattle.std.proofs.Common.{◌≡◌, ℕ, Bool, true, false, ◌==◌, ◌↔◌, IsSome, List, [], ◌∷◌, Option, Some, None, MatchOption, IfSome, refl, sym}
 use Rattle.std.specs.Cmp.Lexicographic.{pointwise}
 use Rattle.bm_term.specs.Iri.{reads_iri, IsIriText}
 use Rattle.bm_term.specs.TermRef.{text_of}

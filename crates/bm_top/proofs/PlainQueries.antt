@@ -1,5 +1,5 @@
 -- The patterns of a plain query, one after another.
-use Rattle.std.proofs.Common.{◌≡◌, ◌⊎◌, inl, inr, ℕ, ◌+◌, ◌<◌, ◌≤◌, ◌++◌, Bool, true, false, ◌==◌, nat_lt, List, [], ◌∷◌, length, map, Option, Some, None, option_map, refl, arith, sym, ◌∙◌, ap, append_assoc}
+use Rattle.std.proofs.Common.{◌≡◌, ℕ, ◌+◌, ◌<◌, ◌≤◌, ◌++◌, true, false, ◌==◌, nat_lt, List, [], ◌∷◌, length, Option, Some, None, option_map, refl, arith, sym, ap, append_assoc}
 use Rattle.std.proofs.lemmas.Grind.{common_steps}
 use Rattle.alg_model.specs.declared.pattern.TriplePat.{TriplePat}
 use Rattle.bm_top.specs.PlainQuery.{is_text, pattern_of, ends_query, patterns_of, query_of_words}

@@ -1,5 +1,5 @@
 -- The variables of plain queries have numbers below the number of names.
-use Rattle.std.proofs.Common.{◌≡◌, ℕ, ◌+◌, ◌<◌, ◌≤◌, ◌++◌, false, map, List, [], ◌∷◌, All, length, refl, arith}
+use Rattle.std.proofs.Common.{◌≡◌, ℕ, ◌<◌, ◌≤◌, ◌++◌, false, map, List, [], ◌∷◌, All, length, refl, arith}
 use Rattle.std.proofs.lemmas.List.Elements.{All-append, All-cons, All-map}
 use Rattle.std.proofs.lemmas.List.FromFn.{length-range_with_len, get_or-range_with_len}
 use Rattle.std.specs.List.{range_with_len}
@@ -9,8 +9,8 @@ use Rattle.alg_model.proofs.Lists.{All-flat_map}
 use Rattle.alg_model.specs.declared.pattern.Place.{Place}
 use Rattle.alg_model.specs.declared.pattern.Place.TheVariants as places
 use Rattle.alg_model.specs.declared.pattern.TriplePat.{TriplePat}
-use Rattle.alg_model.specs.Pattern.{place_vars, triple_vars, vars_of, Basic, HasVarsBelow}
-use Rattle.bm_top.specs.PlainQuery.{IsPlaceBelow, IsPatternBelow, IsPlain, whole_query}
+use Rattle.alg_model.specs.Pattern.{place_vars, triple_vars}
+use Rattle.bm_top.specs.PlainQuery.{IsPlaceBelow, IsPatternBelow, IsPlain}
 
 -- below a number is below a greater one
 pub IsPlaceBelow-more : (m n : ℕ) (place : Place) → m ≤ n → IsPlaceBelow m place → IsPlaceBelow n place
@@ -19,10 +19,10 @@ IsPlaceBelow-more m n (places.Term text) h below = tt
 
 pub IsPatternBelow-more : (m n : ℕ) (pattern : TriplePat) → m ≤ n → IsPatternBelow m pattern → IsPatternBelow n pattern
 IsPatternBelow-more m n pattern h below = record {
-    subject = IsPlaceBelow-more m n pattern.subject h below.subject;
-    predicate = IsPlaceBelow-more m n pattern.predicate h below.predicate;
-    object = IsPlaceBelow-more m n pattern.object h below.object;
-  }
+  subject = IsPlaceBelow-more m n pattern.subject h below.subject;
+  predicate = IsPlaceBelow-more m n pattern.predicate h below.predicate;
+  object = IsPlaceBelow-more m n pattern.object h below.object;
+}
 
 -- one more pattern
 pub below_push : (m n : ℕ) (list new : List TriplePat) (pattern : TriplePat) → m ≤ n → All (IsPatternBelow m) list → IsPatternBelow n pattern → new ≡ list ++ pattern ∷ [] → All (IsPatternBelow n) new
@@ -55,8 +55,8 @@ columns-below n columns is =
 -- a query of such patterns is a plain one
 pub is_plain : (names : List (List ℕ)) (list : List TriplePat) (columns : List Var) → length names ≤ 64 → All (IsPatternBelow (length names)) list → columns ≡ map (λ number. record { 0 = number }) (range_with_len 0 (length names)) → IsPlain (record { names = names; pattern = patterns.Bgp list; columns = columns; distinct = false })
 is_plain names list columns few below are = record {
-    few = few;
-    vars_below = All-flat_map triple_vars (IsPatternBelow (length names)) (λ var. var < length names) (triple_vars-below (length names)) list below;
-    columns_below = columns-below (length names) columns are;
-    not_distinct = refl;
-  }
+  few = few;
+  vars_below = All-flat_map triple_vars (IsPatternBelow (length names)) (λ var. var < length names) (triple_vars-below (length names)) list below;
+  columns_below = columns-below (length names) columns are;
+  not_distinct = refl;
+}

@@ -3,14 +3,13 @@ use Rattle.std.proofs.Common.{◌≡◌, ◌≢◌, ◌⊎◌, inl, inr, ℕ, Li
 use Rattle.std.proofs.lemmas.List.{append-nil}
 use Rattle.std.proofs.Math.Seq.{take-length}
 use Rattle.bm_world.specs.Meanings.{Files, Meanings, with_complained}
-use Rattle.bm_world.specs.World.{Rose, RisesOnErr, AppendsAll}
+use Rattle.bm_world.specs.World.{Rose, AppendsAll}
 use Rattle.bm_world.specs.declared.world.Failed.{Failed}
 use Rattle.bm_top.specs.declared.ending.Ending.{Ending}
 use Rattle.bm_top.specs.declared.ending.Ending.TheVariants as ends
-use Rattle.bm_top.specs.declared.ending.TheConstants.{WRITE_FAULT, OUT_OF_MEMORY}
 use Rattle.bm_top.specs.Verdict.{Verdict, refused, read_fault_line}
-use Rattle.bm_top.specs.Ending.{EndsSo, HasReason, Reason, status_of, line_of}
-use Rattle.bm_top.specs.Run.{IsComplete, IsHonest, Outputs, KeepsFiles, HasCauses, ComplainsLine, Complains}
+use Rattle.bm_top.specs.Ending.{EndsSo, HasReason, status_of, line_of}
+use Rattle.bm_top.specs.Run.{IsComplete, IsHonest, Outputs, KeepsFiles, ComplainsLine, Complains}
 
 -- a command keeps files and complaints
 kept : (verdict : Verdict) (ending : Ending) (m k : Meanings) → EndsSo verdict ending m k → (k.files ≡ m.files) × (k.complained ≡ m.complained)
@@ -31,15 +30,15 @@ record Said (line : List ℕ) (k n : Meanings) : Type 0 where
 
 said_so : (line : List ℕ) (said : Result (Unit {0}) Failed) (k n : Meanings) → AppendsAll with_complained line said k n → Said line k n
 said_so line (Ok u) k n moved = record {
-    files = ap (λ (w : Meanings). w.files) moved;
-    printed = ap (λ (w : Meanings). w.printed) moved;
-    front = (length line, ap (λ (w : Meanings). w.complained) moved ∙ ap (λ part. k.complained ++ part) (sym (take-length line)));
-  }
+  files = ap (λ (w : Meanings). w.files) moved;
+  printed = ap (λ (w : Meanings). w.printed) moved;
+  front = (length line, ap (λ (w : Meanings). w.complained) moved ∙ ap (λ part. k.complained ++ part) (sym (take-length line)));
+}
 said_so line (Err e) k n (count, moved) = record {
-    files = ap (λ (w : Meanings). w.files) moved;
-    printed = ap (λ (w : Meanings). w.printed) moved;
-    front = (count, ap (λ (w : Meanings). w.complained) moved);
-  }
+  files = ap (λ (w : Meanings). w.files) moved;
+  printed = ap (λ (w : Meanings). w.printed) moved;
+  front = (count, ap (λ (w : Meanings). w.complained) moved);
+}
 
 -- all of it, where no call of `complain` failed
 said_all : (line : List ℕ) (says says_now : ℕ) (said : Result (Unit {0}) Failed) (k n : Meanings) → AppendsAll with_complained line said k n → OnErr said (Rose says says_now) → ¬ Rose says says_now → n.complained ≡ k.complained ++ line
@@ -49,11 +48,11 @@ said_all line says says_now (Err e) k n moved cause quiet = absurd (quiet cause)
 -- nothing was printed
 unprinted : (verdict : Verdict) (status : ℕ) (line : List ℕ) (said : Result (Unit {0}) Failed) (m k n : Meanings) → status ≢ 0 → status ≢ 6 → status ≢ 7 → k.printed ≡ m.printed → AppendsAll with_complained line said k n → Outputs verdict status m n
 unprinted verdict status line said m k n no0 no6 no7 same complained = record {
-    whole = λ e. absurd (no0 e);
-    quiet = λ e. absurd (no0 e);
-    front = λ e. absurd (elim e [ inl a ↦ no6 a | inr b ↦ no7 b ]);
-    nothing = λ _ _ _. (said_so line said k n complained).printed ∙ same;
-  }
+  whole = λ e. absurd (no0 e);
+  quiet = λ e. absurd (no0 e);
+  front = λ e. absurd (elim e [ inl a ↦ no6 a | inr b ↦ no7 b ]);
+  nothing = λ _ _ _. (said_so line said k n complained).printed ∙ same;
+}
 
 pub KeepsFiles-ended : (verdict : Verdict) (ending : Ending) (said : Result (Unit {0}) Failed) (m k n : Meanings) → EndsSo verdict ending m k → AppendsAll with_complained (line_of ending) said k n → KeepsFiles m n
 KeepsFiles-ended verdict ending said m k n ended complained =
@@ -153,31 +152,31 @@ module _ (verdict : Files → Verdict) (told : Option Meanings) (reads reads_now
   -- the ending is a refusal whose verdict this is
   refusal : (ending : Ending) (m n : Meanings) (status : ℕ) → verdict m.files ≡ refused status (line_of ending) → status_of ending ≢ 5 → status_of ending ≢ 6 → status_of ending ≢ 7 → ComplainsLine (line_of ending) says says_now m n → Complains (verdict m.files) reads reads_now says says_now (status_of ending) m n
   refusal ending m n status is no5 no6 no7 line = record {
-      verdict_line = λ _ _ _ _. rw is line;
-      read_line = λ e. absurd (no5 e);
-      write_line = λ e. absurd (no6 e);
-      memory_line = λ e. absurd (no7 e);
-    }
+    verdict_line = λ _ _ _ _. rw is line;
+    read_line = λ e. absurd (no5 e);
+    write_line = λ e. absurd (no6 e);
+    memory_line = λ e. absurd (no7 e);
+  }
 
   pub Complains-ended : (ending : Ending) (said : Result (Unit {0}) Failed) (m k n : Meanings) → told ≡ Some m → EndsSo (verdict m.files) ending m k → HasReason verdict told reads reads_now writes writes_now ending → AppendsAll with_complained (line_of ending) said k n → OnErr said (Rose says says_now) → Complains (verdict m.files) reads reads_now says says_now (status_of ending) m n
   Complains-ended ends.Done said m k n is ended had complained cause = record {
-      verdict_line = λ not _ _ _. absurd (not refl);
-      read_line = λ e. absurd (omega arith);
-      write_line = λ e. absurd (omega arith);
-      memory_line = λ e. absurd (omega arith);
-    }
+    verdict_line = λ not _ _ _. absurd (not refl);
+    read_line = λ e. absurd (omega arith);
+    write_line = λ e. absurd (omega arith);
+    memory_line = λ e. absurd (omega arith);
+  }
   Complains-ended ends.WriteFault said m k n is ended had complained cause = record {
-      verdict_line = λ _ not _ _. absurd (not refl);
-      read_line = λ e. absurd (omega arith);
-      write_line = λ _. line_said ends.WriteFault said (verdict m.files) says says_now m k n ended complained cause;
-      memory_line = λ e. absurd (omega arith);
-    }
+    verdict_line = λ _ not _ _. absurd (not refl);
+    read_line = λ e. absurd (omega arith);
+    write_line = λ _. line_said ends.WriteFault said (verdict m.files) says says_now m k n ended complained cause;
+    memory_line = λ e. absurd (omega arith);
+  }
   Complains-ended ends.Memory said m k n is ended had complained cause = record {
-      verdict_line = λ _ _ not _. absurd (not refl);
-      read_line = λ e. absurd (omega arith);
-      write_line = λ e. absurd (omega arith);
-      memory_line = λ _. line_said ends.Memory said (verdict m.files) says says_now m k n ended complained cause;
-    }
+    verdict_line = λ _ _ not _. absurd (not refl);
+    read_line = λ e. absurd (omega arith);
+    write_line = λ e. absurd (omega arith);
+    memory_line = λ _. line_said ends.Memory said (verdict m.files) says says_now m k n ended complained cause;
+  }
   Complains-ended (ends.ReadFault name) said m k n is ended had complained cause =
       let line = line_said (ends.ReadFault name) said (verdict m.files) says says_now m k n ended complained cause in
       record {

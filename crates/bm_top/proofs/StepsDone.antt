@@ -1,5 +1,5 @@
 -- The steps of a command, one after another: what is known at the end of those that are left is known of all.
-use Rattle.std.proofs.Common.{◌≡◌, ◌⊎◌, inl, inr, ℕ, ◌<◌, ◌≤◌, Bool, true, false, nat_lt, List, length, take, Option, Some, None, Vec, Result, Ok, Err, IsErrOf, IsSomeAnd, IsSome, Bor, refl, sym, ◌∙◌, ap, subst, arith}
+use Rattle.std.proofs.Common.{◌≡◌, ◌⊎◌, inl, inr, ℕ, ◌<◌, ◌≤◌, true, false, nat_lt, List, length, take, Option, Some, None, Vec, Result, Ok, Err, IsSomeAnd, Bor, refl, sym, ◌∙◌, ap, subst, arith}
 use Rattle.std.proofs.lemmas.Grind.{common_steps}
 use Rattle.std.specs.declared.alloc.Global.{Global}
 use Rattle.bm_world.specs.Meanings.{Files, Meanings, file_at, with_printed}
@@ -8,10 +8,10 @@ use Rattle.bm_world.specs.World.{Step, Rose, IsMissing, AppendsAll}
 use Rattle.bm_world.specs.declared.world.Failed.{Failed}
 use Rattle.bm_world.specs.declared.reading.ReadEnd.{ReadEnd}
 use Rattle.bm_world.specs.declared.reading.ReadEnd.TheVariants as read_ends
-use Rattle.bm_world.proofs.Steps.{Step-then, Step-weaken, rose_later}
+use Rattle.bm_world.proofs.Steps.{rose_later}
 use Rattle.bm_top.specs.declared.ending.Ending.{Ending}
 use Rattle.bm_top.specs.declared.ending.Ending.TheVariants as ends
-use Rattle.bm_top.specs.Verdict.{Verdict, answered, refused, reading, reading_file, within, read_fault_line, limit_line}
+use Rattle.bm_top.specs.Verdict.{Verdict, answered, refused, reading, reading_file, read_fault_line, limit_line}
 use Rattle.bm_top.specs.Ending.{EndsSo, ReadOnly, Printed, HasReason, Reason, after_printing, after_reading}
 
 -- the text has been printed, or some front of it
@@ -95,10 +95,10 @@ module _ (name : List ℕ) (limit : ℕ) (next : Files → List ℕ → Verdict)
       → (end ≡ read_ends.Fault → Rose reads reads_now ⊎ IsSomeAnd told (IsMissing name))
       → HasReason verdict told reads reads_now writes writes (after_reading end shown limit)
   HasReason-unread told reads reads_now writes end shown is later why = record {
-      reads_later = later;
-      writes_later = omega arith;
-      reason = unread_reason told reads reads_now writes end shown is why;
-    }
+    reads_later = later;
+    writes_later = omega arith;
+    reason = unread_reason told reads reads_now writes end shown is why;
+  }
 
   earlier : (told mid : Option Meanings) (bytes : Vec ℕ Global) (found : Verdict) → length bytes.items ≤ limit → Step told mid (ReadsAll name limit (Ok bytes)) → IsSomeAnd mid (λ k. next k.files bytes.items ≡ found) → IsSomeAnd told (λ m. verdict m.files ≡ found)
   earlier None None bytes found small step h = h
@@ -126,7 +126,7 @@ module _ (name : List ℕ) (limit : ℕ) (next : Files → List ℕ → Verdict)
       → Step told mid (ReadsAll name limit (Ok bytes)) → HasReason (λ files. next files bytes.items) mid reads_mid reads_now writes writes_now ending
       → HasReason verdict told reads reads_now writes writes_now ending
   HasReason-later told mid reads reads_mid reads_now writes writes_now bytes ending later small step had = record {
-      reads_later = omega (arith, had.reads_later);
-      writes_later = had.writes_later;
-      reason = later_reason told mid reads reads_mid reads_now writes writes_now bytes ending later small step had.reason;
-    }
+    reads_later = omega (arith, had.reads_later);
+    writes_later = had.writes_later;
+    reason = later_reason told mid reads reads_mid reads_now writes writes_now bytes ending later small step had.reason;
+  }

@@ -1,5 +1,5 @@
 -- How a command ended, and what is known then.
-use Rattle.std.specs.Prelude.{◌≡◌, ◌⊎◌, ℕ, ◌≤◌, List, [], ◌∷◌, take, Option, Result, Ok, Err, IsSomeAnd}
+use Rattle.std.specs.Prelude.{◌≡◌, ◌⊎◌, ℕ, ◌≤◌, List, [], take, Option, Result, Ok, Err, IsSomeAnd}
 use Rattle.std.specs.Borrow.{Bor}
 use Rattle.bm_world.specs.Meanings.{Files, Meanings, with_printed}
 use Rattle.bm_world.specs.declared.world.Failed.{Failed}
@@ -9,7 +9,7 @@ use Rattle.bm_world.specs.World.{Rose}
 use Rattle.bm_top.specs.declared.ending.Ending.{Ending}
 use Rattle.bm_top.specs.declared.ending.Ending.TheVariants as ends
 use Rattle.bm_top.specs.declared.ending.TheConstants.{USAGE, NOT_PLAIN, WRITE_FAULT, OUT_OF_MEMORY}
-use Rattle.bm_top.specs.Verdict.{Verdict, answered, refused, read_fault_line, limit_line, bad_line_line}
+use Rattle.bm_top.specs.Verdict.{Verdict, refused, read_fault_line, limit_line, bad_line_line}
 
 abbrev pub status_of : Ending → ℕ
 status_of ends.Done = 0

@@ -2,12 +2,11 @@
 -- end after it. A pattern is a subject, a predicate and an object, separated by one space each. The predicate is an
 -- IRI; a subject or an object is an IRI, or a variable: `?` and one or more ASCII letters and digits.
 -- SPARQL 1.1 Query, sections 2 and 4.2.
-use Rattle.std.specs.Prelude.{◌≡◌, ℕ, ◌<◌, ◌≤◌, All, ◌+◌, Bool, true, false, ◌&&◌, ◌||◌, ◌==◌, not, nat_le, nat_lt, if◌then◌else◌, List, [], ◌∷◌, ◌++◌, map, length, Option, Some, None, position}
+use Rattle.std.specs.Prelude.{◌≡◌, ℕ, ◌<◌, ◌≤◌, All, ◌+◌, Bool, false, ◌&&◌, ◌||◌, ◌==◌, not, nat_le, nat_lt, if◌then◌else◌, List, [], ◌∷◌, ◌++◌, map, length, Option, Some, None, position}
 use Rattle.std.specs.List.{list_all, range_with_len}
 use Rattle.std.specs.Option.{option_and_then, option_map}
 use Rattle.std.specs.Cmp.Lexicographic.{pointwise}
 use Rattle.bm_term.specs.Iri.{reads_iri}
-use Rattle.alg_model.specs.declared.var.Var.{Var}
 use Rattle.alg_model.specs.declared.pattern.Place.{Place}
 use Rattle.alg_model.specs.declared.pattern.Place.TheVariants as places
 use Rattle.alg_model.specs.declared.pattern.TriplePat.{TriplePat}
@@ -62,8 +61,8 @@ iri_place word = if reads_iri word then Some (places.Term word) else None
 abbrev pub pattern_of : List (List ℕ) → ℕ → List ℕ → List ℕ → List ℕ → Option (List (List ℕ) × TriplePat)
 pattern_of names number subject predicate object =
     option_and_then (λ first. option_and_then (λ iri. option_map (λ second.
-        (second.0, record { subject = first.1; predicate = iri; object = second.1; number = number }))
-        (node_place first.0 object)) (iri_place predicate)) (node_place names subject)
+    (second.0, record { subject = first.1; predicate = iri; object = second.1; number = number }))
+    (node_place first.0 object)) (iri_place predicate)) (node_place names subject)
 
 -- whether this word ends the query, so that none may follow
 abbrev pub ends_query : List ℕ → Bool
@@ -73,10 +72,10 @@ ends_query word = is_text word CLOSE.now || is_text word CLOSE_AND_END.now
 abbrev pub patterns_of : List (List ℕ) → ℕ → List (List ℕ) → Option (List (List ℕ) × List TriplePat)
 patterns_of names number (subject ∷ predicate ∷ object ∷ mark ∷ words) =
     option_and_then (λ first. if ends_query mark
-        then (if length words == 0 then Some (first.0, first.1 ∷ []) else None)
-        else if is_text mark STOP.now && nat_lt number MAX_PATTERNS
-            then option_map (λ others. (others.0, first.1 ∷ others.1)) (patterns_of first.0 (number + 1) words)
-            else None) (pattern_of names number subject predicate object)
+    then (if length words == 0 then Some (first.0, first.1 ∷ []) else None)
+    else if is_text mark STOP.now && nat_lt number MAX_PATTERNS
+    then option_map (λ others. (others.0, first.1 ∷ others.1)) (patterns_of first.0 (number + 1) words)
+    else None) (pattern_of names number subject predicate object)
 patterns_of names number words = None
 
 -- the query of these patterns: its columns are all variables, in order of number

@@ -1,5 +1,5 @@
 -- What the answers of the readers of plain data and plain queries say.
-use Rattle.std.specs.Prelude.{◌≡◌, ℕ, ◌++◌, true, false, List, [], ◌∷◌, Option, Some, None, Vec, Result, Ok, Err}
+use Rattle.std.specs.Prelude.{◌≡◌, ℕ, ◌++◌, true, false, List, Option, Some, None, Vec, Result, Ok, Err}
 use Rattle.std.specs.declared.alloc.Global.{Global}
 use Rattle.bm_term.specs.Iri.{reads_iri}
 use Rattle.bm_term.specs.declared.term.Term.{Term}

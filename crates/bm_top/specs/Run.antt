@@ -1,5 +1,5 @@
 -- What the whole program promises, in terms of the verdict of its words on the files.
-use Rattle.std.specs.Prelude.{◌≡◌, ◌≢◌, ◌⊎◌, ℕ, ◌++◌, List, [], take, Option, IsSomeAnd}
+use Rattle.std.specs.Prelude.{◌≡◌, ◌≢◌, ◌⊎◌, ℕ, ◌++◌, List, take, Option, IsSomeAnd}
 use Rattle.bm_world.specs.Meanings.{Files, Meanings}
 use Rattle.bm_world.specs.World.{Rose}
 use Rattle.bm_top.specs.declared.ending.TheConstants.{WRITE_FAULT, OUT_OF_MEMORY}

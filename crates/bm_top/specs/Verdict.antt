@@ -1,6 +1,6 @@
 -- The verdict of a command on files: the first step of its order whose condition holds decides. It knows nothing of
 -- how the program works.
-use Rattle.std.specs.Prelude.{ℕ, List, [], ◌∷◌, ◌++◌, Option, Some, None, nat_lt, length, if◌then◌else◌, decimal}
+use Rattle.std.specs.Prelude.{ℕ, List, [], ◌++◌, Option, Some, None, nat_lt, length, if◌then◌else◌, decimal}
 use Rattle.std.specs.FinMap.{get}
 use Rattle.bm_term.specs.Graph.{graph_of}
 use Rattle.alg_model.specs.declared.query.Query.{Query}

@@ -4,6 +4,7 @@ ghost use Rattle.std.specs.String.{string_bytes};
 ghost use Rattle.bm_top.specs.Command.{request_of, requested};
 
 pub const ASK: &str = "ask";
+
 pub const TSV: &str = "tsv";
 
 /// The command that is built: `ask`, with the names of its two files.

@@ -5,8 +5,8 @@ ghost use Rattle.bm_world.specs.World.{Step, RisesOnErr, AppendsAll};
 ghost use Rattle.bm_top.specs.Ending.{line_of};
 
 use crate::ending::{
-    BAD_LINE, BYTES, Ending, IS_LONGER, LIMIT, LINE_END, NOT_PLAIN, OUT_OF_MEMORY, READ_FAULT, USAGE,
-    WRITE_FAULT,
+    BAD_LINE, BYTES, Ending, IS_LONGER, LIMIT, LINE_END, NOT_PLAIN, OUT_OF_MEMORY, READ_FAULT,
+    USAGE, WRITE_FAULT,
 };
 use bm_world::{Failed, World, complain_all};
 use itoa::Buffer;
@@ -29,11 +29,20 @@ pub(crate) fn complain_ending<W: World>(ending: &Ending<'_>, world: &mut W) -> R
             complain_pieces(world, &[READ_FAULT, name.as_bytes(), LINE_END])
         }
         Ending::BadLine { line } => {
-            complain_pieces(world, &[BAD_LINE, number.format(*line).as_bytes(), LINE_END])
+            complain_pieces(
+                world,
+                &[BAD_LINE, number.format(*line).as_bytes(), LINE_END],
+            )
         }
         Ending::TooLong { name, limit } => complain_pieces(
             world,
-            &[LIMIT, name.as_bytes(), IS_LONGER, number.format(*limit).as_bytes(), BYTES],
+            &[
+                LIMIT,
+                name.as_bytes(),
+                IS_LONGER,
+                number.format(*limit).as_bytes(),
+                BYTES,
+            ],
         ),
     }
 }

@@ -1,12 +1,22 @@
-pub const USAGE: &[u8] = b"usage: bitmat ask DATA QUERY tsv|json | load DATA INDEX | query INDEX QUERY tsv|json | check INDEX | explain INDEX QUERY | trial N\n";
+pub const USAGE: &[u8] =
+    b"usage: bitmat ask DATA QUERY tsv|json | load DATA INDEX | query INDEX QUERY tsv|json | check INDEX | explain INDEX QUERY | trial N\n";
+
 pub const READ_FAULT: &[u8] = b"read fault: ";
+
 pub const LIMIT: &[u8] = b"limit: ";
+
 pub const IS_LONGER: &[u8] = b" is longer than ";
+
 pub const BYTES: &[u8] = b" bytes\n";
+
 pub const BAD_LINE: &[u8] = b"data refused: line ";
+
 pub const NOT_PLAIN: &[u8] = b"query refused: not plain\n";
+
 pub const WRITE_FAULT: &[u8] = b"write fault\n";
+
 pub const OUT_OF_MEMORY: &[u8] = b"out of memory\n";
+
 pub const LINE_END: &[u8] = b"\n";
 
 /// How a command ended.

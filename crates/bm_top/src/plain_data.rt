@@ -11,7 +11,9 @@ use bm_term::{Term, TermRef, Triple};
 use std::alloc::{AllocError, AllocFailed, Global};
 
 pub const LINE_FEED: u8 = b'\n';
+
 pub const SPACE: u8 = b' ';
+
 pub const DOT: u8 = b'.';
 
 #[derive(Clone, Copy, Debug, PartialEq, Eq)]

@@ -13,11 +13,17 @@ use bm_term::Term;
 use std::alloc::{AllocError, AllocFailed, Global};
 
 pub const SELECT: &[u8] = b"SELECT";
+
 pub const STAR: &[u8] = b"*";
+
 pub const OPEN: &[u8] = b"{";
+
 pub const CLOSE: &[u8] = b"}";
+
 pub const CLOSE_AND_END: &[u8] = b"}\n";
+
 pub const STOP: &[u8] = b".";
+
 pub const QUESTION: u8 = b'?';
 
 /// The variables that a query may have.

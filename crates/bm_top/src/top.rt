@@ -21,7 +21,7 @@ pub fn run<W: World>(alloc: Global, words: &[String], world: &mut W) -> u8
     // With no failing call, the status is that of the verdict, or 7.
     ensures complete { Step (W.told world.old) (W.told world.new) (λ m n.
         IsComplete (verdict_of (map string_bytes words.now) m.files)
-            (W.read_faults world.old) (W.read_faults world.new) (W.write_faults world.old) (W.write_faults world.new) result) }
+        (W.read_faults world.old) (W.read_faults world.new) (W.write_faults world.old) (W.write_faults world.new) result) }
 
     // Also after a failing call: a status other than 5, 6 and 7 is that of the verdict.
     ensures honest { Step (W.told world.old) (W.told world.new) (λ m n.
@@ -40,7 +40,7 @@ pub fn run<W: World>(alloc: Global, words: &[String], world: &mut W) -> u8
     // A front of one line is complained, and all of it where no call of `complain` failed.
     ensures refusal_line { Step (W.told world.old) (W.told world.new) (λ m n.
         Complains (verdict_of (map string_bytes words.now) m.files)
-            (W.read_faults world.old) (W.read_faults world.new) (W.say_faults world.old) (W.say_faults world.new) result m n) }
+        (W.read_faults world.old) (W.read_faults world.new) (W.say_faults world.old) (W.say_faults world.new) result m n) }
 {
     let ending = perform(alloc, parse_words(words), world);
     let _ = complain_ending(&ending, world);

@@ -1,4 +1,4 @@
-use Rattle.std.proofs.Common.{◌≡◌, rules}
+use Rattle.std.proofs.Common.{rules}
 use Rattle.bm_top.proofs.Answered.{answers_of-sorted}
 use Rattle.bm_top.proofs.answers.answers.Goals as goal
 

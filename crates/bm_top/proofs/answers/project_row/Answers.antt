@@ -1,4 +1,4 @@
-use Rattle.std.proofs.Common.{◌≡◌, ◌++◌, ◌∷◌, [], ◌∙◌, None, ap, sym, slice_index_or, rules}
+use Rattle.std.proofs.Common.{[], None, slice_index_or}
 use Rattle.bm_top.proofs.Lists.{map-take_more}
 use Rattle.bm_top.proofs.answers.project_row.Goals as goal
 

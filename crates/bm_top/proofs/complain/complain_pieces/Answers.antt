@@ -1,5 +1,4 @@
-use Rattle.std.proofs.Common.{◌≡◌, ℕ, suc, ◌≤◌, ◌++◌, List, Bor, take, drop, get_or, arith, sym, ◌∙◌, ap}
-use Rattle.std.specs.List.{flat_map}
+use Rattle.std.proofs.Common.{suc, take, drop, get_or, arith, sym, ◌∙◌, ap}
 use Rattle.bm_world.specs.Meanings.{with_complained}
 use Rattle.bm_world.proofs.Appending.{complained_appends, appends_some}
 use Rattle.bm_world.proofs.Steps.{Step-then, Step-weaken}

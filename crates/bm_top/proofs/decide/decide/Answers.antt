@@ -1,7 +1,6 @@
-use Rattle.std.proofs.Common.{◌≡◌, ◌∙◌, ap, rules, List, ℕ}
+use Rattle.std.proofs.Common.{◌∙◌, ap}
 use Rattle.std.proofs.lemmas.Result.{err_from_is_err_and}
 use Rattle.bm_top.specs.Verdict.{answered}
-use Rattle.bm_top.specs.Tsv.{tsv_text}
 use Rattle.bm_top.proofs.Deciding.{decided-data, decided-query, decided-answered}
 use Rattle.bm_top.proofs.decide.decide.Goals as goal
 

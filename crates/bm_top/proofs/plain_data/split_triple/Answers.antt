@@ -1,5 +1,4 @@
-use Rattle.std.proofs.Common.{◌≡◌, ◌∷◌, rules}
-use Rattle.bm_top.specs.Pieces.{parts_at}
+use Rattle.std.proofs.Common.{rules}
 use Rattle.bm_top.proofs.PlainLines.{no_triple}
 use Rattle.bm_top.proofs.plain_data.split_triple.Goals as goal
 

@@ -1,4 +1,4 @@
-use Rattle.std.proofs.Common.{◌≡◌, ◌+◌, ◌++◌, ◌∷◌, [], ◌∙◌, false, ap, sym, arith, rules}
+use Rattle.std.proofs.Common.{◌≡◌, ◌+◌, ◌∷◌, ◌∙◌, false, ap, sym, arith, rules}
 use Rattle.std.specs.Option.{option_copied, is_none}
 use Rattle.bm_top.specs.Pieces.{parts_left}
 use Rattle.bm_top.specs.PlainQuery.{patterns_of}

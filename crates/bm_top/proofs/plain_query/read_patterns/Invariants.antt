@@ -1,4 +1,4 @@
-use Rattle.std.proofs.Common.{◌≡◌, ◌+◌, ◌≤◌, ◌++◌, [], length, All}
+use Rattle.std.proofs.Common.{◌≡◌, ◌≤◌, [], length, All}
 use Rattle.std.specs.Option.{option_copied}
 use Rattle.bm_top.specs.Pieces.{parts_left}
 use Rattle.bm_top.specs.PlainQuery.{patterns_of, IsPatternBelow}

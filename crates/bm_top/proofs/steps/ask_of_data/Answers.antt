@@ -9,7 +9,7 @@ unfolding query_verdict
 returns-in-Ok-clause-step g c =
     let small : length c.in-Ok.text.items ≤ 1048576 = omega (arith, c.in-Ok.text.ok, c.in-Ok.ensures.within) in
     Step-then c.in-Ok.ensures.step c.print_decided.ensures.step (λ m k n read ended.
-        EndsSo-reading c.args.query.now 1048576 (λ files text. decided c.args.data.now text) m k n c.in-Ok.text c.print_decided.result read small (rw c.deref.ensures.value at ended))
+    EndsSo-reading c.args.query.now 1048576 (λ files text. decided c.args.data.now text) m k n c.in-Ok.text c.print_decided.result read small (rw c.deref.ensures.value at ended))
 
 pub returns-in-Ok-clause-reason : goal.returns-in-Ok-clause-reason
 unfolding query_verdict

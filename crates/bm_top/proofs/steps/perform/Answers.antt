@@ -1,4 +1,3 @@
-use Rattle.std.proofs.Common.{rules}
 use Rattle.bm_world.proofs.Steps.{Step-weaken}
 use Rattle.bm_top.proofs.steps.perform.Goals as goal
 

@@ -9,7 +9,7 @@ unfolding request_verdict
 returns-in-Ok-clause-step g c =
     let small : length c.in-Ok.bytes.items ≤ 536870912 = omega (arith, c.in-Ok.bytes.ok, c.in-Ok.ensures.within) in
     Step-then c.in-Ok.ensures.step c.ask_of_data.ensures.step (λ m k n read ended.
-        EndsSo-reading c.args.data.now 536870912 (λ files bytes. query_verdict files bytes c.args.query.now) m k n c.in-Ok.bytes c.ask_of_data.result read small (rw c.deref.ensures.value at ended))
+    EndsSo-reading c.args.data.now 536870912 (λ files bytes. query_verdict files bytes c.args.query.now) m k n c.in-Ok.bytes c.ask_of_data.result read small (rw c.deref.ensures.value at ended))
 
 pub returns-in-Ok-clause-reason : goal.returns-in-Ok-clause-reason
 unfolding request_verdict

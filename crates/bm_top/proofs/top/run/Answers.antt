@@ -16,7 +16,7 @@ returns-clause-complete g c =
     let verdict : Files → Verdict = λ files. verdict_at files (option_map requested c.parse_words.result) in
     rw (← c.parse_words.ensures, c.status.ensures, c.complain_ending.ensures.read_faults_stay, c.complain_ending.ensures.write_faults_stay)
     (Step-then (Step-known c.perform-ending.ensures.step) c.complain_ending.ensures.step
-        (λ m k n known said. IsComplete-ended verdict _ _ _ _ _ c.perform-ending.result m k known.1 known.0 c.perform-ending.ensures.reason))
+    (λ m k n known said. IsComplete-ended verdict _ _ _ _ _ c.perform-ending.result m k known.1 known.0 c.perform-ending.ensures.reason))
 
 pub returns-clause-honest : goal.returns-clause-honest
 returns-clause-honest g c =
@@ -37,4 +37,4 @@ returns-clause-refusal_line g c =
     let verdict : Files → Verdict = λ files. verdict_at files (option_map requested c.parse_words.result) in
     rw (← c.parse_words.ensures, c.status.ensures, c.complain_ending.ensures.read_faults_stay, ← c.perform-ending.ensures.say_faults_stay)
     (Step-then (Step-known c.perform-ending.ensures.step) c.complain_ending.ensures.step
-        (λ m k n known said. Complains-ended verdict _ _ _ _ _ _ _ c.perform-ending.result c.complain_ending.result m k n known.1 known.0 c.perform-ending.ensures.reason said c.complain_ending.ensures.cause.failed))
+    (λ m k n known said. Complains-ended verdict _ _ _ _ _ _ _ c.perform-ending.result c.complain_ending.result m k n known.1 known.0 c.perform-ending.ensures.reason said c.complain_ending.ensures.cause.failed))

@@ -1,4 +1,4 @@
-use Rattle.std.proofs.Common.{◌≡◌, ◌++◌, ◌∷◌, ◌==◌, if◌then◌else◌, ◌∙◌, ap, List, ℕ}
+use Rattle.std.proofs.Common.{◌++◌, ◌∷◌, ◌==◌, if◌then◌else◌, ◌∙◌, ap, List, ℕ}
 use Rattle.bm_top.specs.Tsv.{marked_name}
 use Rattle.bm_top.proofs.Lists.{join-take_more}
 use Rattle.bm_top.proofs.tsv.push_header.Goals as goal

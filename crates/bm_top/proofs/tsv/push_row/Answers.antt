@@ -1,4 +1,4 @@
-use Rattle.std.proofs.Common.{◌≡◌, ◌++◌, ◌∷◌, ◌==◌, if◌then◌else◌, ◌∙◌, ap, refl, List, ℕ}
+use Rattle.std.proofs.Common.{◌++◌, ◌∷◌, ◌==◌, if◌then◌else◌, ◌∙◌, ap, refl, List, ℕ}
 use Rattle.std.proofs.lemmas.Option.{slice_get_read}
 use Rattle.bm_top.specs.Tsv.{cell_text}
 use Rattle.bm_top.proofs.Lists.{join-take_more}

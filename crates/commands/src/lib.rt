@@ -1,0 +1,5 @@
+//! Tests of whole commands over a world in memory: the one place for tests that cross crates.
+#![tactic(auto)]
+
+#[cfg(test)]
+mod tests;

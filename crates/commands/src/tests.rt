@@ -1,0 +1,287 @@
+use bm_top::run;
+use bm_world::{MemWorld, WorldCall};
+use std::alloc::{AllocError, Global};
+use std::test::Fail;
+
+// Two triples, and a query of two patterns over them.
+const DATA: &str = "<urn:a> <urn:p> <urn:b> .\n<urn:b> <urn:p> <urn:c> .\n";
+
+const QUERY: &str = "SELECT * { ?x <urn:p> ?y . ?y <urn:p> ?z }";
+
+const ANSWER: &str = "?x\t?y\t?z\n<urn:a>\t<urn:b>\t<urn:c>\n";
+
+const USAGE: &str =
+    "usage: bitmat ask DATA QUERY tsv|json | load DATA INDEX | query INDEX QUERY tsv|json | check INDEX | explain INDEX QUERY | trial N\n";
+
+fn world_of(alloc: Global, data: &str, query: &str) -> Result<MemWorld, AllocError> {
+    let mut world = MemWorld::new(alloc);
+    world.put_file("d", data.as_bytes())?;
+    world.put_file("q", query.as_bytes())?;
+    Ok(world)
+}
+
+fn ask(alloc: Global, words: &[&str], world: &mut MemWorld) -> Result<u8, AllocError> {
+    let mut owned = Vec::new(alloc);
+    for word in words {
+        owned.push(String::from_str(alloc, word)?)?;
+    }
+    Ok(run(alloc, owned.as_slice(), world))
+}
+
+// A data file, a query and the text that answers it.
+const ANSWERS: [(&str, &str, &str); 14] = [
+    (DATA, QUERY, ANSWER),
+    (
+        DATA,
+        "SELECT * { ?x <urn:p> ?y }\n",
+        "?x\t?y\n<urn:a>\t<urn:b>\n<urn:b>\t<urn:c>\n",
+    ),
+    ("", QUERY, "?x\t?y\t?z\n"),
+    // The last line needs no end, empty lines are lines, and a repeated line counts once.
+    (
+        "<urn:b> <urn:p> <urn:c> .\n\n<urn:a> <urn:p> <urn:b> .\n<urn:b> <urn:p> <urn:c> .",
+        QUERY,
+        ANSWER,
+    ),
+    // A variable that stands twice in a pattern.
+    (
+        "<urn:a> <urn:p> <urn:a> .\n<urn:a> <urn:p> <urn:b> .",
+        "SELECT * { ?x <urn:p> ?x }",
+        "?x\n<urn:a>\n",
+    ),
+    (DATA, "SELECT * { ?x <urn:p> ?x }", "?x\n"),
+    // Patterns of constants alone.
+    (DATA, "SELECT * { <urn:a> <urn:p> <urn:b> }", "\n\n"),
+    (DATA, "SELECT * { <urn:a> <urn:p> <urn:c> }", "\n"),
+    (
+        DATA,
+        "SELECT * { <urn:a> <urn:p> <urn:b> . ?x <urn:p> <urn:c> }",
+        "?x\n<urn:b>\n",
+    ),
+    // A cross product.
+    (
+        DATA,
+        "SELECT * { ?x <urn:p> <urn:b> . ?y <urn:p> ?z }",
+        "?x\t?y\t?z\n<urn:a>\t<urn:a>\t<urn:b>\n<urn:a>\t<urn:b>\t<urn:c>\n",
+    ),
+    // A triangle that isn't there.
+    (
+        DATA,
+        "SELECT * { ?x <urn:p> ?y . ?y <urn:p> ?z . ?z <urn:p> ?x }",
+        "?x\t?y\t?z\n",
+    ),
+    // Columns stand in order of first occurrence, and rows by their bytes.
+    (
+        DATA,
+        "SELECT * { ?y <urn:p> ?x }",
+        "?y\t?x\n<urn:a>\t<urn:b>\n<urn:b>\t<urn:c>\n",
+    ),
+    (
+        "<urn:b> <urn:p> <urn:b> .\n<urn:a!> <urn:p> <urn:b> .\n<urn:a> <urn:p> <urn:b> .",
+        "SELECT * { ?9a <urn:p> <urn:b> }",
+        "?9a\n<urn:a!>\n<urn:a>\n<urn:b>\n",
+    ),
+    ("<> <urn:p> <> .", "SELECT * { ?x <urn:p> <> }", "?x\n<>\n"),
+];
+
+#[test]
+fn queries_are_answered(rt: HostRuntime) -> Result<(), Fail> {
+    let alloc = rt.alloc();
+    for (data, query, answer) in ANSWERS {
+        let mut world = world_of(alloc, data, query)?;
+        let status = ask(alloc, &["ask", "d", "q", "tsv"], &mut world)?;
+        assert!(rt; status == 0, "{query}");
+        assert!(rt; world.printed() == answer.as_bytes(), "{query}");
+        assert!(rt; world.complained().is_empty(), "{query}");
+        assert!(rt; world.faults() == (0, 0, 0), "{query}");
+    }
+    Ok(())
+}
+
+// A data file, a query, the status and the line that is complained.
+const REFUSALS: [(&str, &str, u8, &str); 17] = [
+    (
+        "<urn:a> <urn:p> <urn:b> .\n<urn:s> <urn:p> \"x\" .\n",
+        QUERY,
+        2,
+        "data refused: line 2\n",
+    ),
+    (
+        "<urn:a> <urn:p> <urn:b>\n",
+        QUERY,
+        2,
+        "data refused: line 1\n",
+    ),
+    (
+        "\n\n<urn:a>  <urn:p> <urn:b> .",
+        QUERY,
+        2,
+        "data refused: line 3\n",
+    ),
+    (
+        "<urn:a> <urn:p> <urn:b> .\r\n",
+        QUERY,
+        2,
+        "data refused: line 1\n",
+    ),
+    (
+        "<urn:a> <urn:p> <urn:b> . \n",
+        QUERY,
+        2,
+        "data refused: line 1\n",
+    ),
+    (
+        "<urn:a> <urn:p> <urn:b c> .\n",
+        QUERY,
+        2,
+        "data refused: line 1\n",
+    ),
+    // The first bad line comes before a query that is none.
+    ("x", "y", 2, "data refused: line 1\n"),
+    (DATA, "", 3, "query refused: not plain\n"),
+    (DATA, "SELECT * {}", 3, "query refused: not plain\n"),
+    (DATA, "SELECT * { }", 3, "query refused: not plain\n"),
+    (
+        DATA,
+        "SELECT * { ?x <urn:p> ?y . }",
+        3,
+        "query refused: not plain\n",
+    ),
+    (
+        DATA,
+        "SELECT * { ?x <urn:p> ?y }\n\n",
+        3,
+        "query refused: not plain\n",
+    ),
+    (
+        DATA,
+        "SELECT * { ?x <urn:p> ?y } ",
+        3,
+        "query refused: not plain\n",
+    ),
+    (
+        DATA,
+        "SELECT * { ?x ?p ?y }",
+        3,
+        "query refused: not plain\n",
+    ),
+    (
+        DATA,
+        "SELECT * { ? <urn:p> ?y }",
+        3,
+        "query refused: not plain\n",
+    ),
+    (
+        DATA,
+        "SELECT * { ?x_1 <urn:p> ?y }",
+        3,
+        "query refused: not plain\n",
+    ),
+    (
+        DATA,
+        "select * { ?x <urn:p> ?y }",
+        3,
+        "query refused: not plain\n",
+    ),
+];
+
+#[test]
+fn refusals_have_their_lines(rt: HostRuntime) -> Result<(), Fail> {
+    let alloc = rt.alloc();
+    for (data, query, wanted, line) in REFUSALS {
+        let mut world = world_of(alloc, data, query)?;
+        let status = ask(alloc, &["ask", "d", "q", "tsv"], &mut world)?;
+        assert!(rt; status == wanted, "{data} {query}");
+        assert!(rt; world.printed().is_empty(), "{data} {query}");
+        assert!(rt; world.complained() == line.as_bytes(), "{data} {query}");
+    }
+    Ok(())
+}
+
+// Words, the status and the line, where there is a file `d` and a file `q`.
+const WORDS: [(&[&str], u8, &str); 7] = [
+    (&[], 1, USAGE),
+    (&["ask", "d", "q"], 1, USAGE),
+    (&["ask", "d", "q", "json"], 1, USAGE),
+    (&["ask", "d", "q", "tsv", "x"], 1, USAGE),
+    (&["--help"], 1, USAGE),
+    (&["ask", "e", "q", "tsv"], 5, "read fault: e\n"),
+    (&["ask", "d", "r", "tsv"], 5, "read fault: r\n"),
+];
+
+#[test]
+fn words_and_files_are_looked_at_first(rt: HostRuntime) -> Result<(), Fail> {
+    let alloc = rt.alloc();
+    for (words, wanted, line) in WORDS {
+        let mut world = world_of(alloc, "no data", QUERY)?;
+        let status = ask(alloc, words, &mut world)?;
+        assert!(rt; status == wanted, "{line}");
+        assert!(rt; world.printed().is_empty(), "{line}");
+        assert!(rt; world.complained() == line.as_bytes(), "{line}");
+    }
+    Ok(())
+}
+
+// A call that is scheduled to fail, the status, and the line.
+const FAILURES: [(WorldCall, u64, u8, &str); 8] = [
+    (WorldCall::Open, 1, 5, "read fault: d\n"),
+    (WorldCall::Open, 2, 5, "read fault: q\n"),
+    (WorldCall::Read, 1, 5, "read fault: d\n"),
+    (WorldCall::Read, 2, 5, "read fault: d\n"),
+    (WorldCall::Read, 3, 5, "read fault: q\n"),
+    (WorldCall::Read, 4, 5, "read fault: q\n"),
+    (WorldCall::Print, 1, 6, "write fault\n"),
+    (WorldCall::Complain, 1, 0, ""),
+];
+
+#[test]
+fn each_call_of_a_run_fails_in_turn(rt: HostRuntime) -> Result<(), Fail> {
+    let alloc = rt.alloc();
+    for (call, k, wanted, line) in FAILURES {
+        let mut world = world_of(alloc, DATA, QUERY)?;
+        world.fail_at(call, k)?;
+        let status = ask(alloc, &["ask", "d", "q", "tsv"], &mut world)?;
+        let printed = if wanted == 0 { ANSWER } else { "" };
+        assert!(rt; status == wanted, "{line}");
+        assert!(rt; world.printed() == printed.as_bytes(), "{line}");
+        assert!(rt; world.complained() == line.as_bytes(), "{line}");
+        assert!(rt; world.file("d") == Some(DATA.as_bytes()), "{line}");
+    }
+    Ok(())
+}
+
+// A line in three pieces, of which one fails: the pieces before it, and none behind it.
+const COMPLAINTS: [(u64, &str); 4] = [
+    (1, ""),
+    (2, "read fault: "),
+    (3, "read fault: e"),
+    (4, "read fault: e\n"),
+];
+
+#[test]
+fn a_failing_complaint_changes_no_status(rt: HostRuntime) -> Result<(), Fail> {
+    let alloc = rt.alloc();
+    for (k, said) in COMPLAINTS {
+        let mut world = world_of(alloc, DATA, QUERY)?;
+        world.fail_at(WorldCall::Complain, k)?;
+        let status = ask(alloc, &["ask", "e", "q", "tsv"], &mut world)?;
+        assert!(rt; status == 5, "{said}");
+        assert!(rt; world.complained() == said.as_bytes(), "{said}");
+    }
+    let mut world = MemWorld::new(alloc);
+    world.fail_at(WorldCall::Complain, 1)?;
+    assert!(rt; ask(alloc, &[], &mut world)? == 1);
+    assert!(rt; world.complained().is_empty());
+    Ok(())
+}
+
+#[test]
+fn a_long_query_file_is_refused(rt: HostRuntime) -> Result<(), Fail> {
+    let alloc = rt.alloc();
+    let spaces = vec![in alloc; b' '; 1_048_577]?;
+    let mut world = world_of(alloc, "x", "")?;
+    world.put_file("q", &spaces)?;
+    assert!(rt; ask(alloc, &["ask", "d", "q", "tsv"], &mut world)? == 8);
+    assert!(rt; world.complained() == b"limit: q is longer than 1048576 bytes\n".as_slice());
+    Ok(())
+}
