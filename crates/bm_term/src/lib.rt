@@ -3,11 +3,16 @@
 //! So far the one kind of term is the IRI, of characters of ASCII.
 #![tactic(auto)]
 
+mod classes;
 mod iri;
 mod term;
 mod term_ref;
 mod triple;
 
+pub use classes::{
+    is_digit, is_hex, is_irichar, is_letter, is_lower_letter, is_nt_pn_chars, is_nt_pn_chars_u,
+    is_pn_chars_base, is_scalar, is_sparql_pn_chars, is_sparql_pn_chars_u,
+};
 pub use iri::{GREATER_THAN, LESS_THAN, is_iri, is_iri_char};
 pub use term::Term;
 pub use term_ref::TermRef;
