@@ -1,1 +1,2 @@
 pub mod IriTexts
+pub mod TextLemmas

@@ -1,3 +1,4 @@
 pub mod Classes
 pub mod Iri
+pub mod Text
 pub mod TermRef

@@ -7,6 +7,7 @@ mod classes;
 mod iri;
 mod term;
 mod term_ref;
+mod text;
 mod triple;
 
 pub use classes::{
@@ -16,6 +17,7 @@ pub use classes::{
 pub use iri::{GREATER_THAN, LESS_THAN, is_iri, is_iri_char};
 pub use term::Term;
 pub use term_ref::TermRef;
+pub use text::{CharClass, after_char, after_run, after_some, before, split_char};
 pub use triple::Triple;
 
 #[cfg(test)]

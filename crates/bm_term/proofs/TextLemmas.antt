@@ -1,0 +1,60 @@
+-- Runs of characters, and what stands before a rest.
+use Rattle.std.proofs.Common.{◌≡◌, ℕ, ◌-◌, Bool, true, false, if◌then◌else◌, List, [], ◌∷◌, ◌++◌, length, take, refl, ap, subst, ◌∙◌, sym, arith, length-append}
+use Rattle.std.proofs.Math.Seq.{take-append_seam}
+use Rattle.std.proofs.lemmas.Str.{encodes-chars, encodes-append, IsCharBoundary-at_seam, IsUtf8-take, chars-append}
+use Rattle.std.specs.Str.{chars, IsUtf8, IsCharBoundary, encode_utf8_all}
+use Rattle.std.proofs.lemmas.Bool.{and_parts}
+use Rattle.std.specs.List.{list_all}
+use Rattle.bm_term.specs.Text.{after_run, before, HasRest}
+
+-- a text is a run and what follows it
+pub after_run-split : (p : ℕ → Bool) (cs : List ℕ) → (run : List ℕ) × (list_all p run ≡ true) × (cs ≡ run ++ after_run p cs)
+unfolding after_run
+after_run-split p [] = ([], refl, refl)
+after_run-split p (c ∷ cs) =
+    elim (p c) as (λ b. p c ≡ b → (run : List ℕ) × (list_all p run ≡ true) × (c ∷ cs ≡ run ++ (if b then after_run p cs else c ∷ cs))) [
+      | true ↦ λ e. let (run, all, split) = after_run-split p cs in (c ∷ run, rw e all, ap (λ xs. c ∷ xs) split)
+      | false ↦ λ e. ([], refl, refl)
+    ] refl
+
+-- a run goes as far as the characters pass
+pub after_run-append : (p : ℕ → Bool) (run rest : List ℕ) → list_all p run ≡ true → after_run p (run ++ rest) ≡ after_run p rest
+unfolding after_run
+after_run-append p [] rest all = refl
+after_run-append p (c ∷ cs) rest all =
+    let (first, others) = and_parts (p c) (list_all p cs) all in
+    rw first (after_run-append p cs rest others)
+
+-- and no further
+pub after_run-stop : (p : ℕ → Bool) (d : ℕ) (rest : List ℕ) → p d ≡ false → after_run p (d ∷ rest) ≡ d ∷ rest
+unfolding after_run
+after_run-stop p d rest stops = rw stops refl
+
+pub after_run-nil : (p : ℕ → Bool) → after_run p [] ≡ []
+unfolding after_run
+after_run-nil p = refl
+
+-- what stands before a rest, and the rest, are the text
+pub before-append : (front rest : List ℕ) → before (front ++ rest) rest ≡ front
+before-append front rest =
+    let len : length (front ++ rest) - length rest ≡ length front = omega (arith, length-append front rest) in
+    rw len (take-append_seam front rest)
+
+-- where the characters of a text end with those of another, so do the bytes
+pub bytes_before_rest : (text rest : List ℕ) → IsUtf8 text → IsUtf8 rest → HasRest (chars text) (chars rest) → (front : List ℕ) × (text ≡ front ++ rest)
+bytes_before_rest text rest text_utf8 rest_utf8 (front, split) =
+    (encode_utf8_all front,
+     sym (encodes-chars text text_utf8) ∙ ap encode_utf8_all split ∙ encodes-append front (chars rest) ∙ ap (λ bytes. encode_utf8_all front ++ bytes) (encodes-chars rest rest_utf8))
+
+-- there the text may be cut
+pub cut_before_rest : (text rest front : List ℕ) → text ≡ front ++ rest → IsUtf8 rest → IsCharBoundary text (length text - length rest)
+cut_before_rest text rest front split rest_utf8 =
+    let at : length text - length rest ≡ length front = rw split (omega (arith, length-append front rest)) in
+    rw at (IsCharBoundary-at_seam text front rest split rest_utf8)
+
+-- and what it is cut into is the text before the rest
+pub chars-before : (text rest front : List ℕ) → text ≡ front ++ rest → IsUtf8 text → IsUtf8 rest → chars (take (length text - length rest) text) ≡ before (chars text) (chars rest)
+chars-before text rest front split text_utf8 rest_utf8 =
+    let cut : take (length text - length rest) text ≡ front = rw split (before-append front rest) in
+    let front_utf8 : IsUtf8 front = subst IsUtf8 cut (IsUtf8-take text (length text - length rest) text_utf8 (cut_before_rest text rest front split rest_utf8)) in
+    rw (cut, split, chars-append front rest front_utf8) (sym (before-append (chars front) (chars rest)))
