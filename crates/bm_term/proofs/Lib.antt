@@ -1,2 +1,3 @@
 pub mod IriTexts
 pub mod TextLemmas
+pub mod RepetitionLemmas
