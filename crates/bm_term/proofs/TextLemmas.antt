@@ -1,11 +1,13 @@
 -- Runs of characters, and what stands before a rest.
-use Rattle.std.proofs.Common.{◌≡◌, ℕ, ◌-◌, Bool, true, false, if◌then◌else◌, List, [], ◌∷◌, ◌++◌, length, take, refl, ap, subst, ◌∙◌, sym, arith, length-append}
+use Rattle.std.proofs.Common.{◌≡◌, ℕ, ◌-◌, ◌<◌, ◌≤◌, Bool, true, false, ◌==◌, if◌then◌else◌, Option, Some, None, List, [], ◌∷◌, ◌++◌, length, take, refl, ap, subst, ◌∙◌, sym, arith, length-append}
 use Rattle.std.proofs.Math.Seq.{take-append_seam}
 use Rattle.std.proofs.lemmas.Str.{encodes-chars, encodes-append, IsCharBoundary-at_seam, IsUtf8-take, chars-append}
 use Rattle.std.specs.Str.{chars, IsUtf8, IsCharBoundary, encode_utf8_all}
-use Rattle.std.proofs.lemmas.Bool.{and_parts}
+use Rattle.std.proofs.lemmas.Bool.{and_parts, eqb-true}
+use Rattle.std.proofs.lemmas.Option.{cond_some}
+use Rattle.std.specs.Cmp.Derive.{both_true}
 use Rattle.std.specs.List.{list_all}
-use Rattle.bm_term.specs.Text.{after_run, before, HasRest}
+use Rattle.bm_term.specs.Text.{after_char, after_run, after_some, IsRun, before, HasRest}
 
 -- a text is a run and what follows it
 pub after_run-split : (p : ℕ → Bool) (cs : List ℕ) → (run : List ℕ) × (list_all p run ≡ true) × (cs ≡ run ++ after_run p cs)
@@ -33,6 +35,41 @@ after_run-stop p d rest stops = rw stops refl
 pub after_run-nil : (p : ℕ → Bool) → after_run p [] ≡ []
 unfolding after_run
 after_run-nil p = refl
+
+-- what follows a run begins with no other
+pub after_run-after_run : (p : ℕ → Bool) (cs : List ℕ) → after_run p (after_run p cs) ≡ after_run p cs
+unfolding after_run
+after_run-after_run p [] = refl
+after_run-after_run p (c ∷ cs) =
+    elim (p c) as (λ b. p c ≡ b → after_run p (if b then after_run p cs else c ∷ cs) ≡ (if b then after_run p cs else c ∷ cs)) [
+      | true ↦ λ e. after_run-after_run p cs
+      | false ↦ λ e. rw e refl
+    ] refl
+
+pub length-after_run : (p : ℕ → Bool) (cs : List ℕ) → length (after_run p cs) ≤ length cs
+length-after_run p cs = let (run, all, split) = after_run-split p cs in omega (arith, ap length split, length-append run (after_run p cs))
+
+-- the parts of a text that begins so
+pub after_char-some : (d : ℕ) (text rest : List ℕ) → after_char d text ≡ Some rest → text ≡ d ∷ rest
+after_char-some d [] rest e = absurd (cc)
+after_char-some d (c ∷ cs) rest e =
+    let (same, others) = cond_some (c == d) cs rest e in
+    let first = eqb-true c d same in
+    cc
+
+pub after_some-some : (p : ℕ → Bool) (text rest : List ℕ) → after_some p text ≡ Some rest → (run : List ℕ) × IsRun p run × (text ≡ run ++ rest) × (after_run p rest ≡ rest)
+after_some-some p [] rest e = absurd (cc)
+after_some-some p (c ∷ cs) rest e =
+    let (first, others) = cond_some (p c) (after_run p cs) rest e in
+    let (run, all, split) = after_run-split p cs in
+    (c ∷ run, (omega arith, both_true first all), rw (← others) (ap (λ xs. c ∷ xs) split), rw (← others) (after_run-after_run p cs))
+
+-- a run in front is passed
+pub after_some-append : (p : ℕ → Bool) (run rest : List ℕ) → IsRun p run → after_some p (run ++ rest) ≡ Some (after_run p rest)
+after_some-append p [] rest (long, all) = absurd (omega arith)
+after_some-append p (c ∷ cs) rest (long, all) =
+    let (first, others) = and_parts (p c) (list_all p cs) all in
+    rw (first, after_run-append p cs rest others) refl
 
 -- what stands before a rest, and the rest, are the text
 pub before-append : (front rest : List ℕ) → before (front ++ rest) rest ≡ front

@@ -5,6 +5,7 @@
 
 mod classes;
 mod iri;
+mod names;
 mod term;
 mod term_ref;
 mod text;
@@ -15,6 +16,7 @@ pub use classes::{
     is_pn_chars_base, is_scalar, is_sparql_pn_chars, is_sparql_pn_chars_u,
 };
 pub use iri::{GREATER_THAN, LESS_THAN, is_iri, is_iri_char};
+pub use names::{after_dotted_name, after_language_tag};
 pub use term::Term;
 pub use term_ref::TermRef;
 pub use text::{CharClass, after_char, after_run, after_some, before, split_char};
