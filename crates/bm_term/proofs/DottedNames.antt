@@ -17,11 +17,17 @@ module _ (inner : ℕ → Bool) where
   goes_on : (dots : List ℕ) (c : ℕ) (cs end : List ℕ) → list_all (is_dotted inner) dots ≡ true → inner c ≡ true → SplitsInName cs end → SplitsInName (dots ++ c ∷ cs) end
   goes_on dots c cs end all e (name, inl nothing, split) =
       (dots ++ c ∷ [], inr (dots, c, all, e, refl), rw (split, nothing, append_assoc dots (c ∷ []) end) refl)
-  goes_on dots c cs end all e (name, inr (middle, last, dotted, ends, spelled), split) =
-      (dots ++ c ∷ name,
-       inr (dots ++ c ∷ middle, last, rw list_all-append (both_true all (both_true (rw e refl) dotted)), ends,
-            rw (spelled, append_assoc dots (c ∷ middle) (last ∷ [])) refl),
-       rw (split, append_assoc dots (c ∷ name) end) refl)
+  goes_on dots c cs end all e (name, inr (middle, last, dotted, ends, spelled), split) = (
+    dots ++ c ∷ name,
+    inr (
+      dots ++ c ∷ middle,
+      last,
+      rw list_all-append (both_true all (both_true (rw e refl) dotted)),
+      ends,
+      rw (spelled, append_assoc dots (c ∷ middle) (last ∷ [])) refl,
+    ),
+    rw (split, append_assoc dots (c ∷ name) end) refl,
+  )
 
   or_true : (a b : Bool) → b ≡ true → (a || b) ≡ true
   or_true true b e = refl
@@ -34,12 +40,12 @@ module _ (inner : ℕ → Bool) where
       elim (inner c) as (λ b. inner c ≡ b → SplitsInName (dots ++ c ∷ cs) (if b then dotted_end inner cs cs else (if c == 46 then dotted_end inner (dots ++ c ∷ cs) cs else (dots ++ c ∷ cs)))) [
         | true ↦ λ e. goes_on dots c cs (dotted_end inner cs cs) all e (dotted_end-splits [] cs refl)
         | false ↦ λ e.
-          elim (c == 46) as (λ b. (c == 46) ≡ b → SplitsInName (dots ++ c ∷ cs) (if b then dotted_end inner (dots ++ c ∷ cs) cs else (dots ++ c ∷ cs))) [
-            | true ↦ λ f.
-              subst (λ text. SplitsInName text (dotted_end inner text cs)) (append_assoc dots (c ∷ []) cs)
-              (dotted_end-splits (dots ++ c ∷ []) cs (rw list_all-append (both_true all (both_true (or_true (inner c) (c == 46) f) refl))))
-            | false ↦ λ f. ([], inl refl, refl)
-          ] refl
+            elim (c == 46) as (λ b. (c == 46) ≡ b → SplitsInName (dots ++ c ∷ cs) (if b then dotted_end inner (dots ++ c ∷ cs) cs else (dots ++ c ∷ cs))) [
+              | true ↦ λ f.
+                  subst (λ text. SplitsInName text (dotted_end inner text cs)) (append_assoc dots (c ∷ []) cs)
+                  (dotted_end-splits (dots ++ c ∷ []) cs (rw list_all-append (both_true all (both_true (or_true (inner c) (c == 46) f) refl))))
+              | false ↦ λ f. ([], inl refl, refl)
+            ] refl
       ] refl
 
   length-dotted_end : (text : List ℕ) → length (dotted_end inner text text) ≤ length text
@@ -71,7 +77,8 @@ module _ (first inner : ℕ → Bool) where
   unfolding after_dotted_name
   after_dotted_name-reaches front more (c, rest, begins, inl nothing, spelled) =
       (dotted_end inner more more, rw (spelled, nothing, begins) refl, length-dotted_end inner more)
-  after_dotted_name-reaches front more (c, rest, begins, inr (middle, last, dotted, ends, split), spelled) =
-      (dotted_end inner (middle ++ last ∷ more) (middle ++ last ∷ more),
-       rw (spelled, split, append_assoc middle (last ∷ []) more, begins) refl,
-       dotted_end-reaches inner middle last (middle ++ last ∷ more) more dotted ends)
+  after_dotted_name-reaches front more (c, rest, begins, inr (middle, last, dotted, ends, split), spelled) = (
+    dotted_end inner (middle ++ last ∷ more) (middle ++ last ∷ more),
+    rw (spelled, split, append_assoc middle (last ∷ []) more, begins) refl,
+    dotted_end-reaches inner middle last (middle ++ last ∷ more) more dotted ends,
+  )

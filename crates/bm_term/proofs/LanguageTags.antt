@@ -15,8 +15,8 @@ unfolding after_subtag
 after_subtag-reads p text rest e =
     option_and_then_some (after_some p) (after_char 45 text) rest e
     (λ after found some.
-      let (run, is_run, split, stuck) = after_some-some p after rest some in
-      (45 ∷ run, run, (is_run, refl), after_char-some 45 text after found ∙ ap (λ xs. 45 ∷ xs) split, stuck))
+    let (run, is_run, split, stuck) = after_some-some p after rest some in
+    (45 ∷ run, run, (is_run, refl), after_char-some 45 text after found ∙ ap (λ xs. 45 ∷ xs) split, stuck))
 
 after_subtag-passes : (p : ℕ → Bool) → PassesPieces (IsSubtag p) (after_subtag p)
 after_subtag-passes p text rest e =
@@ -53,8 +53,11 @@ module _ (letter alphanumeric : ℕ → Bool) (no_letter : letter 45 ≡ false) 
       rw star (omega (arith, length-after_subtags (after_run alphanumeric more), length-after_run alphanumeric more))
   subtags_reach (subtag ∷ subtags) text more (front, others, (run, spelled), star, split) =
       let whole : text ++ more ≡ 45 ∷ (subtag ++ (others ++ more)) = rw (split, spelled, append_assoc subtag others more) refl in
-      rw (whole, after_run-stop alphanumeric 45 (subtag ++ (others ++ more)) no_alphanumeric,
-          after_subtags-more alphanumeric (45 ∷ (subtag ++ (others ++ more))) (after_run alphanumeric (others ++ more)) (step subtag (others ++ more) run))
+      rw (
+        whole,
+        after_run-stop alphanumeric 45 (subtag ++ (others ++ more)) no_alphanumeric,
+        after_subtags-more alphanumeric (45 ∷ (subtag ++ (others ++ more))) (after_run alphanumeric (others ++ more)) (step subtag (others ++ more) run),
+      )
       (subtags_reach subtags others more star)
 
   -- what follows the first part of a tag
@@ -63,16 +66,20 @@ module _ (letter alphanumeric : ℕ → Bool) (no_letter : letter 45 ≡ false) 
       rw star (omega (arith, length-after_subtags (after_run letter more), length-after_run letter more))
   rest_reaches (subtag ∷ subtags) text more (front, others, (run, spelled), star, split) =
       let whole : text ++ more ≡ 45 ∷ (subtag ++ (others ++ more)) = rw (split, spelled, append_assoc subtag others more) refl in
-      rw (whole, after_run-stop letter 45 (subtag ++ (others ++ more)) no_letter,
-          after_subtags-more alphanumeric (45 ∷ (subtag ++ (others ++ more))) (after_run alphanumeric (others ++ more)) (step subtag (others ++ more) run))
+      rw (
+        whole,
+        after_run-stop letter 45 (subtag ++ (others ++ more)) no_letter,
+        after_subtags-more alphanumeric (45 ∷ (subtag ++ (others ++ more))) (after_run alphanumeric (others ++ more)) (step subtag (others ++ more) run),
+      )
       (subtags_reach subtags others more star)
 
   pub after_language_tag-reaches : Reaches (IsLanguageTag letter alphanumeric) (after_language_tag letter alphanumeric)
   unfolding after_language_tag
-  after_language_tag-reaches front more (primary, text, subtags, run, star, spelled) =
-      (after_pieces (after_subtag alphanumeric) (after_run letter (text ++ more)),
-       rw (spelled, append_assoc primary text more, after_some-append letter primary (text ++ more) run) refl,
-       rest_reaches subtags text more star)
+  after_language_tag-reaches front more (primary, text, subtags, run, star, spelled) = (
+    after_pieces (after_subtag alphanumeric) (after_run letter (text ++ more)),
+    rw (spelled, append_assoc primary text more, after_some-append letter primary (text ++ more) run) refl,
+    rest_reaches subtags text more star,
+  )
 
 pub after_language_tag-sound : (letter alphanumeric : ℕ → Bool) → Sound (IsLanguageTag letter alphanumeric) (after_language_tag letter alphanumeric)
 unfolding after_language_tag
@@ -80,9 +87,11 @@ after_language_tag-sound letter alphanumeric text rest e =
     elim (after_some letter text) as (λ r. after_some letter text ≡ r → option_map (after_pieces (after_subtag alphanumeric)) r ≡ Some rest → (tag : List ℕ) × IsLanguageTag letter alphanumeric tag × (text ≡ tag ++ rest)) [
       | None ↦ λ found h. absurd (cc)
       | Some after ↦ λ found h.
-        let (primary, run, text_split, stuck) = after_some-some letter text after found in
-        let (front, subtags, star, after_split) = splits (IsSubtag alphanumeric) (after_subtag alphanumeric) (after_subtag-passes alphanumeric) (after_subtag-forward alphanumeric) after in
-        let end : after_pieces (after_subtag alphanumeric) after ≡ rest = same_Some (after_pieces (after_subtag alphanumeric) after) rest h in
-        (primary ++ front, (primary, front, subtags, run, star, refl),
-         text_split ∙ ap (λ xs. primary ++ xs) (after_split ∙ ap (λ xs. front ++ xs) end) ∙ sym (append_assoc primary front rest))
+          let (primary, run, text_split, stuck) = after_some-some letter text after found in
+          let (front, subtags, star, after_split) = splits (IsSubtag alphanumeric) (after_subtag alphanumeric) (after_subtag-passes alphanumeric) (after_subtag-forward alphanumeric) after in
+          let end : after_pieces (after_subtag alphanumeric) after ≡ rest = same_Some (after_pieces (after_subtag alphanumeric) after) rest h in (
+            primary ++ front,
+            (primary, front, subtags, run, star, refl),
+            text_split ∙ ap (λ xs. primary ++ xs) (after_split ∙ ap (λ xs. front ++ xs) end) ∙ sym (append_assoc primary front rest),
+          )
     ] refl e

@@ -17,17 +17,18 @@ module _ (T : List ℕ → Type 0) (after : List ℕ → Option (List ℕ)) wher
   -- what is read is the longest
   pub longest : Sound → Reaches → (text rest : List ℕ) → after text ≡ Some rest → (front : List ℕ) × IsLongest T front rest × (text ≡ front ++ rest)
   longest sound reaches text rest e =
-      let (front, is, split) = sound text rest e in
-      (front,
-       record {
-         follows = is;
-         longest = λ more others more_split more_is.
-           let (end, found, less) = reaches (front ++ more) others more_is in
-           let whole : (front ++ more) ++ others ≡ text = append_assoc front more others ∙ ap (λ xs. front ++ xs) (sym more_split) ∙ sym split in
-           let same : rest ≡ end = same_Some rest end (sym e ∙ rw whole at found) in
-           nil_from_length more (omega (arith, ap length more_split, ap length same, length-append more others));
-       },
-       split)
+      let (front, is, split) = sound text rest e in (
+        front,
+        record {
+          follows = is;
+          longest = λ more others more_split more_is.
+              let (end, found, less) = reaches (front ++ more) others more_is in
+              let whole : (front ++ more) ++ others ≡ text = append_assoc front more others ∙ ap (λ xs. front ++ xs) (sym more_split) ∙ sym split in
+              let same : rest ≡ end = same_Some rest end (sym e ∙ rw whole at found) in
+              nil_from_length more (omega (arith, ap length more_split, ap length same, length-append more others));
+        },
+        split,
+      )
 
   -- where nothing is read, no text of the rule stands in front
   pub none : Reaches → (text : List ℕ) → after text ≡ None → (front more : List ℕ) → T front → text ≡ front ++ more → ⊥

@@ -43,9 +43,12 @@ module _ {V : Type 0} (P : List ℕ → V → Type 0) (step : List ℕ → Optio
 
   -- one more piece at the front
   splits-more : (text rest front : List ℕ) (v : V) → P front v → text ≡ front ++ rest → after_pieces step text ≡ after_pieces step rest → SplitsInPieces rest → SplitsInPieces text
-  splits-more text rest front v piece split same (pieces, vs, star, splits) =
-      (front ++ pieces, v ∷ vs, (front, pieces, piece, star, refl),
-       rw same (split ∙ ap (λ xs. front ++ xs) splits ∙ sym (append_assoc front pieces (after_pieces step rest))))
+  splits-more text rest front v piece split same (pieces, vs, star, splits) = (
+    front ++ pieces,
+    v ∷ vs,
+    (front, pieces, piece, star, refl),
+    rw same (split ∙ ap (λ xs. front ++ xs) splits ∙ sym (append_assoc front pieces (after_pieces step rest))),
+  )
 
   splits-none : GoesForward step → (text : List ℕ) → step text ≡ None → after_pieces step text ≡ text
   splits-none forward text stuck = rw (after_pieces-step step forward text, stuck) refl
@@ -60,10 +63,10 @@ module _ {V : Type 0} (P : List ℕ → V → Type 0) (step : List ℕ → Optio
       elim (step text) as (λ r. step text ≡ r → SplitsInPieces text) [
         | None ↦ λ e. ([], [], refl, sym (splits-none forward text e))
         | Some rest ↦ λ e.
-          let less = forward text rest e in
-          let (front, v, piece, split) = passes text rest e in
-          let same : after_pieces step text ≡ after_pieces step rest = rw (after_pieces-step step forward text, e) refl in
-          splits-more text rest front v piece split same (splits-up_to passes forward n rest (omega arith))
+            let less = forward text rest e in
+            let (front, v, piece, split) = passes text rest e in
+            let same : after_pieces step text ≡ after_pieces step rest = rw (after_pieces-step step forward text, e) refl in
+            splits-more text rest front v piece split same (splits-up_to passes forward n rest (omega arith))
       ] refl
 
   pub splits : PassesPieces → GoesForward step → (text : List ℕ) → SplitsInPieces text
@@ -80,9 +83,9 @@ module _ {V : Type 0} (P : List ℕ → V → Type 0) (step : List ℕ → Optio
       elim (step text) as (λ r. step text ≡ r → step (after_pieces step text) ≡ None) [
         | None ↦ λ e. rw (splits-none forward text e) e
         | Some rest ↦ λ e.
-          let less = forward text rest e in
-          let same : after_pieces step text ≡ after_pieces step rest = rw (after_pieces-step step forward text, e) refl in
-          rw same (stuck-up_to forward n rest (omega arith))
+            let less = forward text rest e in
+            let same : after_pieces step text ≡ after_pieces step rest = rw (after_pieces-step step forward text, e) refl in
+            rw same (stuck-up_to forward n rest (omega arith))
       ] refl
 
   pub stuck : GoesForward step → (text : List ℕ) → step (after_pieces step text) ≡ None

@@ -79,9 +79,10 @@ before-append front rest =
 
 -- where the characters of a text end with those of another, so do the bytes
 pub bytes_before_rest : (text rest : List ℕ) → IsUtf8 text → IsUtf8 rest → HasRest (chars text) (chars rest) → (front : List ℕ) × (text ≡ front ++ rest)
-bytes_before_rest text rest text_utf8 rest_utf8 (front, split) =
-    (encode_utf8_all front,
-     sym (encodes-chars text text_utf8) ∙ ap encode_utf8_all split ∙ encodes-append front (chars rest) ∙ ap (λ bytes. encode_utf8_all front ++ bytes) (encodes-chars rest rest_utf8))
+bytes_before_rest text rest text_utf8 rest_utf8 (front, split) = (
+  encode_utf8_all front,
+  sym (encodes-chars text text_utf8) ∙ ap encode_utf8_all split ∙ encodes-append front (chars rest) ∙ ap (λ bytes. encode_utf8_all front ++ bytes) (encodes-chars rest rest_utf8),
+)
 
 -- there the text may be cut
 pub cut_before_rest : (text rest front : List ℕ) → text ≡ front ++ rest → IsUtf8 rest → IsCharBoundary text (length text - length rest)

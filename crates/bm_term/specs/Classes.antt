@@ -62,3 +62,18 @@ is_excluded_mark c =
 -- IRICHAR: every character above the space but these marks
 unfoldable pub is_irichar : ℕ → Bool
 is_irichar c = is_scalar c && nat_lt 0x20 c && not (is_excluded_mark c)
+
+-- [a-z] | [0-9]
+unfoldable pub is_lower_alphanumeric : ℕ → Bool
+is_lower_alphanumeric c = is_lower_letter c || is_digit c
+
+-- [A-Z] | [a-z] | [0-9]
+unfoldable pub is_alphanumeric : ℕ → Bool
+is_alphanumeric c = is_letter c || is_digit c
+
+-- PN_CHARS_U | [0-9], with which a label begins, in N-Triples and in SPARQL
+unfoldable pub is_nt_label_first : ℕ → Bool
+is_nt_label_first c = is_nt_pn_chars_u c || is_digit c
+
+unfoldable pub is_sparql_label_first : ℕ → Bool
+is_sparql_label_first c = is_sparql_pn_chars_u c || is_digit c

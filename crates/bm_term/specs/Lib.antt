@@ -1,7 +1,9 @@
+pub mod Canonical
 pub mod Classes
 pub mod Iri
 pub mod Marks
 pub mod Names
+pub mod Reading
 pub mod Repetition
 pub mod Text
 pub mod TermRef

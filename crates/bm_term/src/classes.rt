@@ -1,6 +1,6 @@
 // The classes of characters that the grammars of N-Triples and of SPARQL name.
 ghost use Rattle.std.specs.Prelude.{◌≡◌};
-ghost use Rattle.bm_term.specs.Classes.{is_scalar, is_letter, is_lower_letter, is_digit, is_hex, is_pn_chars_base, is_sparql_pn_chars_u, is_nt_pn_chars_u, is_pn_chars_more, is_sparql_pn_chars, is_nt_pn_chars, is_irichar};
+ghost use Rattle.bm_term.specs.Classes.{is_scalar, is_letter, is_lower_letter, is_digit, is_hex, is_pn_chars_base, is_sparql_pn_chars_u, is_nt_pn_chars_u, is_pn_chars_more, is_sparql_pn_chars, is_nt_pn_chars, is_irichar, is_lower_alphanumeric, is_alphanumeric, is_nt_label_first, is_sparql_label_first};
 
 /// Whether the number is a Unicode scalar value: at most 10FFFF, and no surrogate.
 #[tactic(auto, unfolding(crate::specs::Classes::is_scalar))]
@@ -118,4 +118,36 @@ pub fn is_irichar(c: u32) -> bool
             c,
             0x22 | 0x3C | 0x3E | 0x5C | 0x5E | 0x60 | 0x7B | 0x7C | 0x7D
         )
+}
+
+/// `a` to `z` and `0` to `9`.
+#[tactic(auto, unfolding(crate::specs::Classes::is_lower_alphanumeric))]
+pub fn is_lower_alphanumeric(c: u32) -> bool
+    ensures { result ≡ is_lower_alphanumeric c }
+{
+    is_lower_letter(c) || is_digit(c)
+}
+
+/// `A` to `Z`, `a` to `z` and `0` to `9`.
+#[tactic(auto, unfolding(crate::specs::Classes::is_alphanumeric))]
+pub fn is_alphanumeric(c: u32) -> bool
+    ensures { result ≡ is_alphanumeric c }
+{
+    is_letter(c) || is_digit(c)
+}
+
+/// The characters with which a label of N-Triples begins: its `PN_CHARS_U` and digits.
+#[tactic(auto, unfolding(crate::specs::Classes::is_nt_label_first))]
+pub fn is_nt_label_first(c: u32) -> bool
+    ensures { result ≡ is_nt_label_first c }
+{
+    is_nt_pn_chars_u(c) || is_digit(c)
+}
+
+/// The characters with which a label of SPARQL begins: its `PN_CHARS_U` and digits.
+#[tactic(auto, unfolding(crate::specs::Classes::is_sparql_label_first))]
+pub fn is_sparql_label_first(c: u32) -> bool
+    ensures { result ≡ is_sparql_label_first c }
+{
+    is_sparql_pn_chars_u(c) || is_digit(c)
 }

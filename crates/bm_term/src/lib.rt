@@ -3,21 +3,29 @@
 //! So far the one kind of term is the IRI, of characters of ASCII.
 #![tactic(auto)]
 
+mod class_types;
 mod classes;
 mod iri;
 mod names;
 mod term;
+mod term_parts;
 mod term_ref;
 mod text;
 mod triple;
 
+pub use class_types::{
+    Alphanumeric, Irichar, Letter, LowerAlphanumeric, LowerLetter, NtLabelFirst, NtPnChars,
+    PnCharsBase, SparqlLabelFirst, SparqlPnChars,
+};
 pub use classes::{
-    is_digit, is_hex, is_irichar, is_letter, is_lower_letter, is_nt_pn_chars, is_nt_pn_chars_u,
-    is_pn_chars_base, is_scalar, is_sparql_pn_chars, is_sparql_pn_chars_u,
+    is_alphanumeric, is_digit, is_hex, is_irichar, is_letter, is_lower_alphanumeric,
+    is_lower_letter, is_nt_label_first, is_nt_pn_chars, is_nt_pn_chars_u, is_pn_chars_base,
+    is_scalar, is_sparql_label_first, is_sparql_pn_chars, is_sparql_pn_chars_u,
 };
 pub use iri::{GREATER_THAN, LESS_THAN, is_iri, is_iri_char};
 pub use names::{after_dotted_name, after_language_tag};
 pub use term::Term;
+pub use term_parts::{Parts, TermKind};
 pub use term_ref::TermRef;
 pub use text::{CharClass, after_char, after_run, after_some, before, split_char};
 pub use triple::Triple;
