@@ -4,3 +4,4 @@ pub mod RepetitionLemmas
 pub mod Longest
 pub mod DottedNames
 pub mod LanguageTags
+pub mod Spellings

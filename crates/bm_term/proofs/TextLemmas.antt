@@ -1,9 +1,12 @@
 -- Runs of characters, and what stands before a rest.
-use Rattle.std.proofs.Common.{◌≡◌, ℕ, ◌-◌, ◌<◌, ◌≤◌, Bool, true, false, ◌==◌, if◌then◌else◌, Option, Some, None, List, [], ◌∷◌, ◌++◌, length, take, refl, ap, subst, ◌∙◌, sym, arith, length-append}
+use Rattle.std.proofs.Common.{◌≡◌, ℕ, ◌-◌, ◌<◌, ◌≤◌, Bool, true, false, ◌==◌, nat_lt, if◌then◌else◌, Option, Some, None, List, [], ◌∷◌, ◌++◌, length, take, refl, ap, subst, ◌∙◌, sym, arith, length-append}
 use Rattle.std.proofs.Math.Seq.{take-append_seam}
-use Rattle.std.proofs.lemmas.Str.{encodes-chars, encodes-append, IsCharBoundary-at_seam, IsUtf8-take, chars-append}
-use Rattle.std.specs.Str.{chars, IsUtf8, IsCharBoundary, encode_utf8_all}
+use Rattle.std.proofs.lemmas.Str.{chars-IsAscii, encodes-IsAscii, chars-nil, encodes-chars, encodes-append, IsCharBoundary-at_seam, IsUtf8-take, chars-append}
+use Rattle.std.proofs.lemmas.Str.Ascii.{IsAscii-nil, IsAscii-cons}
+use Rattle.std.specs.Str.{bytes_eq, IsAscii, chars, IsUtf8, IsCharBoundary, encode_utf8_all}
 use Rattle.std.proofs.lemmas.Bool.{and_parts, eqb-true}
+use Rattle.std.proofs.lemmas.Bool.Decides.{nat_tests, same_from_decides}
+use Rattle.std.proofs.lemmas.Slice.Eq.{bytes_eq-Decides}
 use Rattle.std.proofs.lemmas.Option.{cond_some}
 use Rattle.std.specs.Cmp.Derive.{both_true}
 use Rattle.std.specs.List.{list_all}
@@ -96,3 +99,29 @@ chars-before text rest front split text_utf8 rest_utf8 =
     let cut : take (length text - length rest) text ≡ front = rw split (before-append front rest) in
     let front_utf8 : IsUtf8 front = subst IsUtf8 cut (IsUtf8-take text (length text - length rest) text_utf8 (cut_before_rest text rest front split rest_utf8)) in
     rw (cut, split, chars-append front rest front_utf8) (sym (before-append (chars front) (chars rest)))
+
+pub ruleset empty_text = (chars-nil)
+
+-- a text has characters where it has bytes
+pub chars-empty : (text : List ℕ) → IsUtf8 text → (length text == 0) ≡ (length (chars text) == 0)
+chars-empty [] text_utf8 = rw chars-nil refl
+chars-empty (b ∷ bs) text_utf8 =
+    let spelled = encodes-chars (b ∷ bs) text_utf8 in
+    elim (chars (b ∷ bs)) as (λ cs. encode_utf8_all cs ≡ b ∷ bs → (length (b ∷ bs) == 0) ≡ (length cs == 0)) [
+      | [] ↦ λ e. absurd (cc)
+      | c ∷ cs ↦ λ e. grind (arith, nat_tests)
+    ] spelled
+
+-- a text is ASCII just where its characters are, and then they are its bytes
+pub bytes_eq-chars : (text ascii : List ℕ) → IsUtf8 text → IsAscii ascii → bytes_eq text ascii ≡ bytes_eq (chars text) ascii
+bytes_eq-chars text ascii text_utf8 is_ascii =
+    same_from_decides (bytes_eq text ascii) (bytes_eq (chars text) ascii)
+    (bytes_eq-Decides text ascii)
+    (λ e. let same = (bytes_eq-Decides (chars text) ascii).0 e in sym (encodes-chars text text_utf8) ∙ ap encode_utf8_all same ∙ encodes-IsAscii ascii is_ascii,
+     λ same. (bytes_eq-Decides (chars text) ascii).1 (rw same (chars-IsAscii ascii is_ascii)))
+
+pub IsAscii-list_all : (bytes : List ℕ) → list_all (λ b. nat_lt b 128) bytes ≡ true → IsAscii bytes
+IsAscii-list_all [] all = IsAscii-nil
+IsAscii-list_all (b ∷ bs) all =
+    let (first, others) = and_parts (nat_lt b 128) (list_all (λ b. nat_lt b 128) bs) all in
+    IsAscii-cons b bs (grind (arith, nat_tests)) (IsAscii-list_all bs others)

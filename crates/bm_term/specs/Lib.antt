@@ -1,5 +1,6 @@
 pub mod Canonical
 pub mod Classes
+pub mod Escapes
 pub mod Iri
 pub mod Marks
 pub mod Names

@@ -1,5 +1,5 @@
 // Walking a text from its front.
-ghost use Rattle.std.specs.Prelude.{◌≡◌, ℕ, Bool, IfSome};
+ghost use Rattle.std.specs.Prelude.{◌≡◌, ◌==◌, ℕ, Bool, IfSome, length};
 ghost use Rattle.std.specs.Option.{option_map};
 ghost use Rattle.std.specs.Str.{chars, IsUtf8};
 ghost use Rattle.bm_term.specs.Text.{uncons, after_char, after_run, after_some, before, HasRest};
@@ -68,4 +68,11 @@ pub fn after_some<C: CharClass>(text: &str, class: C) -> Option<&str>
         Some((c, rest)) if class.has(c) => Some(after_run(rest, class)),
         _ => None,
     }
+}
+
+/// Whether nothing is left of a text.
+pub fn is_at_end(text: &str) -> bool
+    ensures { result ≡ (length (chars text.now) == 0) }
+{
+    text.is_empty()
 }
