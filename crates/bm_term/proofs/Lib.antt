@@ -4,4 +4,6 @@ pub mod RepetitionLemmas
 pub mod Longest
 pub mod DottedNames
 pub mod LanguageTags
+pub mod Scalars
 pub mod Spellings
+pub mod TermTexts

@@ -1,11 +1,15 @@
 -- The characters of a literal as they are spelled, read one by one.
-use Rattle.std.proofs.Common.{◌≡◌, ℕ, ◌<◌, Bool, true, false, ◌==◌, ◌||◌, if◌then◌else◌, ◌⊎◌, inl, inr, is_some, Option, Some, None, List, [], ◌∷◌, ◌++◌, length, refl, ap, ◌∙◌, sym, arith, length-append}
+use Rattle.std.proofs.Common.{◌≡◌, ℕ, ◌<◌, Bool, true, false, ◌==◌, ◌||◌, ◌&&◌, if◌then◌else◌, ◌⊎◌, inl, inr, is_some, Option, Some, None, List, [], ◌∷◌, ◌++◌, length, refl, ap, ◌∙◌, sym, arith, length-append}
 use Rattle.std.proofs.lemmas.Option.{cond_some}
 use Rattle.std.proofs.lemmas.Bool.{eqb-true}
 use Rattle.std.proofs.lemmas.Bool.Decides.{nat_tests}
 use Rattle.bm_term.specs.Canonical.{escape_letter, spelled_by, spelling, escaped}
 use Rattle.bm_term.specs.Reading.{is_escape_letter, after_escape, after_spelling}
 use Rattle.bm_term.specs.Repetition.{Star, after_pieces, GoesForward}
+use Rattle.bm_term.proofs.Scalars.{all_scalars-append}
+use lib.Utf8.{scalar, low_scalar}
+use Rattle.std.proofs.Math.Bool.{and-true}
+use Rattle.std.specs.Str.{all_scalars}
 use Rattle.bm_term.proofs.RepetitionLemmas.{after_pieces-step, PassesPieces, splits, passed}
 
 -- a piece of a literal: a character as it is spelled
@@ -105,3 +109,32 @@ pub after_spellings-escaped : (lexical rest : List ℕ) → after_pieces after_s
 after_spellings-escaped lexical rest =
     passed IsSpelling after_spelling (λ _. Unit {0}) (λ _ _ _ _. tt) after_spelling-forward
     (λ front rest c spelled _. rw spelled (after_spelling-spelling c rest)) lexical (escaped lexical) rest (are_spellings lexical) tt
+
+-- what is escaped, and its letter, are ASCII
+escaped_is_ascii : (c letter : ℕ) → escape_letter c ≡ Some letter → c < 128
+unfolding escape_letter
+escaped_is_ascii c letter e = grind (arith, nat_tests)
+
+letter_is_ascii : (letter : ℕ) → is_escape_letter letter ≡ true → letter < 128
+unfolding is_escape_letter
+letter_is_ascii letter e = grind (arith, nat_tests)
+
+-- the spelling of a character is of characters, and of no other number is
+all_scalars-spelling : (c : ℕ) → all_scalars (spelling c) ≡ scalar c
+all_scalars-spelling c =
+    elim (escape_letter c) as (λ r. escape_letter c ≡ r → all_scalars (spelled_by c r) ≡ scalar c) [
+      | None ↦ λ e. and-true (scalar c)
+      | Some letter ↦ λ e.
+        let small = escaped_is_ascii c letter e in
+        let letter_small = letter_is_ascii letter (escape_letter-into c letter e) in
+        let is : scalar c ≡ true = low_scalar c (omega arith) in
+        let letter_is : scalar letter ≡ true = low_scalar letter (omega arith) in
+        rw (is, letter_is) refl
+    ] refl
+
+pub all_scalars-escaped : (lexical : List ℕ) → all_scalars (escaped lexical) ≡ all_scalars lexical
+all_scalars-escaped [] = refl
+all_scalars-escaped (c ∷ cs) =
+    all_scalars-append (spelling c) (escaped cs)
+    ∙ ap (λ b. b && all_scalars (escaped cs)) (all_scalars-spelling c)
+    ∙ ap (λ b. scalar c && b) (all_scalars-escaped cs)
