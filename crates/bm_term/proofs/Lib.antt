@@ -6,4 +6,5 @@ pub mod DottedNames
 pub mod LanguageTags
 pub mod Scalars
 pub mod Spellings
+pub mod TermScalars
 pub mod TermTexts
