@@ -8,3 +8,4 @@ pub mod Scalars
 pub mod Spellings
 pub mod TermScalars
 pub mod TermTexts
+pub mod PartsLaws

@@ -125,11 +125,11 @@ all_scalars-spelling c =
     elim (escape_letter c) as (λ r. escape_letter c ≡ r → all_scalars (spelled_by c r) ≡ scalar c) [
       | None ↦ λ e. and-true (scalar c)
       | Some letter ↦ λ e.
-        let small = escaped_is_ascii c letter e in
-        let letter_small = letter_is_ascii letter (escape_letter-into c letter e) in
-        let is : scalar c ≡ true = low_scalar c (omega arith) in
-        let letter_is : scalar letter ≡ true = low_scalar letter (omega arith) in
-        rw (is, letter_is) refl
+          let small = escaped_is_ascii c letter e in
+          let letter_small = letter_is_ascii letter (escape_letter-into c letter e) in
+          let is : scalar c ≡ true = low_scalar c (omega arith) in
+          let letter_is : scalar letter ≡ true = low_scalar letter (omega arith) in
+          rw (is, letter_is) refl
     ] refl
 
 pub all_scalars-escaped : (lexical : List ℕ) → all_scalars (escaped lexical) ≡ all_scalars lexical

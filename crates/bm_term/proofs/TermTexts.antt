@@ -56,11 +56,11 @@ split_iri-some text chars rest e =
     elim (after_char 62 end) as (λ r. after_char 62 end ≡ r → ◌≡◌ {A = Option (List ℕ × List ℕ)} (option_map (λ rest. (before text end, rest)) r) (Some (chars, rest)) → (list_all is_irichar chars ≡ true) × (text ≡ chars ++ 62 ∷ rest)) [
       | None ↦ λ found h. absurd (cc)
       | Some after ↦ λ found h.
-        let (front, follows) = some_pair_parts (before text end) chars after rest h in
-        let closed = after_char-some 62 end after found in
-        let (run, all, split) = after_run-split is_irichar text in
-        let same : run ≡ chars = sym (before-append run end) ∙ ap (λ xs. before xs end) (sym split) ∙ front in
-        (subst (λ xs. list_all is_irichar xs ≡ true) same all, split ∙ ap (λ xs. xs ++ end) same ∙ ap (λ xs. chars ++ xs) (closed ∙ ap (λ xs. 62 ∷ xs) follows))
+          let (front, follows) = some_pair_parts (before text end) chars after rest h in
+          let closed = after_char-some 62 end after found in
+          let (run, all, split) = after_run-split is_irichar text in
+          let same : run ≡ chars = sym (before-append run end) ∙ ap (λ xs. before xs end) (sym split) ∙ front in
+          (subst (λ xs. list_all is_irichar xs ≡ true) same all, split ∙ ap (λ xs. xs ++ end) same ∙ ap (λ xs. chars ++ xs) (closed ∙ ap (λ xs. 62 ∷ xs) follows))
     ] refl e
 
 split_iri-again : (chars rest : List ℕ) → list_all is_irichar chars ≡ true → split_iri (chars ++ 62 ∷ rest) ≡ Some (chars, rest)
@@ -81,14 +81,14 @@ unfolding read_iri
 read_iri-tells text read e =
     option_and_then_some (λ split. at_end split.1 (Iri, split.0, [])) (split_iri text) read e
     (λ split found ends.
-      let (all, spelled) = split_iri-some text split.0 split.1 found in
-      let (ended, same) = at_end-some split.1 (Iri, split.0, []) read ends in
-      record {
-        term = iri split.0;
-        is = all;
-        spelled = ap (λ xs. 60 ∷ xs) (spelled ∙ ap (λ xs. split.0 ++ 62 ∷ xs) ended);
-        parts = same;
-      })
+    let (all, spelled) = split_iri-some text split.0 split.1 found in
+    let (ended, same) = at_end-some split.1 (Iri, split.0, []) read ends in
+    record {
+      term = iri split.0;
+      is = all;
+      spelled = ap (λ xs. 60 ∷ xs) (spelled ∙ ap (λ xs. split.0 ++ 62 ∷ xs) ended);
+      parts = same;
+    })
 
 read_iri-again : (chars : List ℕ) → list_all is_irichar chars ≡ true → read_iri (chars ++ 62 ∷ []) ≡ Some (Iri, chars, [])
 unfolding read_iri
@@ -99,17 +99,17 @@ unfolding read_blank
 read_blank-tells text read e =
     option_and_then_some (λ label. option_and_then (λ rest. at_end rest (Blank, label, [])) (after_dotted_name is_nt_label_first is_nt_pn_chars label)) (after_char 58 text) read e
     (λ label colon follows.
-      option_and_then_some (λ rest. at_end rest (Blank, label, [])) (after_dotted_name is_nt_label_first is_nt_pn_chars label) read follows
-      (λ rest named ends.
-        let (ended, same) = at_end-some rest (Blank, label, []) read ends in
-        let (name, is, split) = after_dotted_name-sound is_nt_label_first is_nt_pn_chars label rest named in
-        let whole : name ≡ label = sym (split ∙ ap (λ xs. name ++ xs) ended ∙ append-nil name) in
-        record {
-          term = blank label;
-          is = subst (λ xs. IsDottedName is_nt_label_first is_nt_pn_chars xs) whole is;
-          spelled = ap (λ xs. 95 ∷ xs) (after_char-some 58 text label colon);
-          parts = same;
-        }))
+    option_and_then_some (λ rest. at_end rest (Blank, label, [])) (after_dotted_name is_nt_label_first is_nt_pn_chars label) read follows
+    (λ rest named ends.
+    let (ended, same) = at_end-some rest (Blank, label, []) read ends in
+    let (name, is, split) = after_dotted_name-sound is_nt_label_first is_nt_pn_chars label rest named in
+    let whole : name ≡ label = sym (split ∙ ap (λ xs. name ++ xs) ended ∙ append-nil name) in
+    record {
+      term = blank label;
+      is = subst (λ xs. IsDottedName is_nt_label_first is_nt_pn_chars xs) whole is;
+      spelled = ap (λ xs. 95 ∷ xs) (after_char-some 58 text label colon);
+      parts = same;
+    }))
 
 read_blank-again : (label : List ℕ) → IsDottedName is_nt_label_first is_nt_pn_chars label → read_blank (58 ∷ label) ≡ Some (Blank, label, [])
 unfolding read_blank
@@ -137,21 +137,21 @@ module _ (lexical : List ℕ) (scalars : all_scalars lexical ≡ true) where
   read_tagged-tells text read e =
       option_and_then_some (λ rest. at_end rest (Tagged, escaped lexical, text)) (after_language_tag is_lower_letter is_lower_alphanumeric text) read e
       (λ rest named ends.
-        let (ended, same) = at_end-some rest (Tagged, escaped lexical, text) read ends in
-        let (tag, is, split) = after_language_tag-sound is_lower_letter is_lower_alphanumeric text rest named in
-        let whole : tag ≡ text = sym (split ∙ ap (λ xs. tag ++ xs) ended ∙ append-nil tag) in
-        record {
-          term = tagged lexical text;
-          is = (scalars, subst (λ xs. IsLanguageTag is_lower_letter is_lower_alphanumeric xs) whole is);
-          spelled = refl;
-          parts = same;
-        })
+      let (ended, same) = at_end-some rest (Tagged, escaped lexical, text) read ends in
+      let (tag, is, split) = after_language_tag-sound is_lower_letter is_lower_alphanumeric text rest named in
+      let whole : tag ≡ text = sym (split ∙ ap (λ xs. tag ++ xs) ended ∙ append-nil tag) in
+      record {
+        term = tagged lexical text;
+        is = (scalars, subst (λ xs. IsLanguageTag is_lower_letter is_lower_alphanumeric xs) whole is);
+        spelled = refl;
+        parts = same;
+      })
 
   read_tagged-again : (tag : List ℕ) → IsLanguageTag is_lower_letter is_lower_alphanumeric tag → read_tagged (escaped lexical) tag ≡ Some (Tagged, escaped lexical, tag)
   unfolding read_tagged
   read_tagged-again tag is =
       rw (whole (IsLanguageTag is_lower_letter is_lower_alphanumeric) (after_language_tag is_lower_letter is_lower_alphanumeric)
-          (after_language_tag-reaches is_lower_letter is_lower_alphanumeric no_lower_letter no_lower_alphanumeric) tag is) refl
+      (after_language_tag-reaches is_lower_letter is_lower_alphanumeric no_lower_letter no_lower_alphanumeric) tag is) refl
 
   abbrev typed_end : List ℕ × List ℕ → Option Read
   typed_end split = if bytes_eq split.0 xsd_string then None else at_end split.1 (Typed, escaped lexical, split.0)
@@ -161,8 +161,8 @@ module _ (lexical : List ℕ) (scalars : all_scalars lexical ≡ true) where
       elim (bytes_eq datatype xsd_string) as (λ b. bytes_eq datatype xsd_string ≡ b → ◌≡◌ {A = Option Read} (if b then None else at_end rest (Typed, escaped lexical, datatype)) (Some read) → (datatype ≢ xsd_string) × (rest ≡ []) × ((Typed, escaped lexical, datatype) ≡ read)) [
         | true ↦ λ f h. absurd (cc)
         | false ↦ λ f h.
-          let (ended, same) = at_end-some rest (Typed, escaped lexical, datatype) read h in
-          (bytes_eq-differs datatype xsd_string f, ended, same)
+            let (ended, same) = at_end-some rest (Typed, escaped lexical, datatype) read h in
+            (bytes_eq-differs datatype xsd_string f, ended, same)
       ] refl e
 
   read_typed-tells : (text : List ℕ) (read : Read) → read_typed (escaped lexical) text ≡ Some read → TellsLiteral lexical (94 ∷ text) read
@@ -170,18 +170,18 @@ module _ (lexical : List ℕ) (scalars : all_scalars lexical ≡ true) where
   read_typed-tells text read e =
       option_and_then_some (λ mark. option_and_then (λ datatype. option_and_then typed_end (split_iri datatype)) (after_char 60 mark)) (after_char 94 text) read e
       (λ mark circumflex follows.
-        option_and_then_some (λ datatype. option_and_then typed_end (split_iri datatype)) (after_char 60 mark) read follows
-        (λ datatype bracket closes.
-          option_and_then_some typed_end (split_iri datatype) read closes
-          (λ split found ends.
-            let (all, spelled) = split_iri-some datatype split.0 split.1 found in
-            let (other, ended, same) = typed_end-some split.0 split.1 read ends in
-            record {
-              term = typed lexical split.0;
-              is = (scalars, all, other);
-              spelled = ap (λ xs. 34 ∷ (escaped lexical ++ 34 ∷ 94 ∷ xs)) (after_char-some 94 text mark circumflex ∙ ap (λ xs. 94 ∷ xs) (after_char-some 60 mark datatype bracket ∙ ap (λ xs. 60 ∷ xs) (spelled ∙ ap (λ xs. split.0 ++ 62 ∷ xs) ended)));
-              parts = same;
-            })))
+      option_and_then_some (λ datatype. option_and_then typed_end (split_iri datatype)) (after_char 60 mark) read follows
+      (λ datatype bracket closes.
+      option_and_then_some typed_end (split_iri datatype) read closes
+      (λ split found ends.
+      let (all, spelled) = split_iri-some datatype split.0 split.1 found in
+      let (other, ended, same) = typed_end-some split.0 split.1 read ends in
+      record {
+        term = typed lexical split.0;
+        is = (scalars, all, other);
+        spelled = ap (λ xs. 34 ∷ (escaped lexical ++ 34 ∷ 94 ∷ xs)) (after_char-some 94 text mark circumflex ∙ ap (λ xs. 94 ∷ xs) (after_char-some 60 mark datatype bracket ∙ ap (λ xs. 60 ∷ xs) (spelled ∙ ap (λ xs. split.0 ++ 62 ∷ xs) ended)));
+        parts = same;
+      })))
 
   read_typed-again : (datatype : List ℕ) → list_all is_irichar datatype ≡ true → datatype ≢ xsd_string → read_typed (escaped lexical) (94 ∷ 60 ∷ (datatype ++ 62 ∷ [])) ≡ Some (Typed, escaped lexical, datatype)
   unfolding read_typed
@@ -195,10 +195,10 @@ module _ (lexical : List ℕ) (scalars : all_scalars lexical ≡ true) where
       elim (c == 64) as (λ b. (c == 64) ≡ b → (if b then read_tagged (escaped lexical) cs else (if c == 94 then read_typed (escaped lexical) cs else None)) ≡ Some read → TellsLiteral lexical (c ∷ cs) read) [
         | true ↦ λ f h. let same = eqb-true c 64 f in rw same (read_tagged-tells cs read h)
         | false ↦ λ f h.
-          elim (c == 94) as (λ b. (c == 94) ≡ b → (if b then read_typed (escaped lexical) cs else None) ≡ Some read → TellsLiteral lexical (c ∷ cs) read) [
-            | true ↦ λ g k. let same = eqb-true c 94 g in rw same (read_typed-tells cs read k)
-            | false ↦ λ g k. absurd (cc)
-          ] refl h
+            elim (c == 94) as (λ b. (c == 94) ≡ b → (if b then read_typed (escaped lexical) cs else None) ≡ Some read → TellsLiteral lexical (c ∷ cs) read) [
+              | true ↦ λ g k. let same = eqb-true c 94 g in rw same (read_typed-tells cs read k)
+              | false ↦ λ g k. absurd (cc)
+            ] refl h
       ] refl e
 
   read_literal-tells : (text : List ℕ) (read : Read) → text ≡ escaped lexical ++ after_pieces after_spelling text → read_literal text ≡ Some read → Tells text (34 ∷ []) read
@@ -208,14 +208,14 @@ module _ (lexical : List ℕ) (scalars : all_scalars lexical ≡ true) where
       let front : before text end ≡ escaped lexical = ap (λ xs. before xs end) split ∙ before-append (escaped lexical) end in
       option_and_then_some (read_tail (before text end)) (after_char 34 end) read e
       (λ tail closed follows.
-        let reads : read_tail (escaped lexical) tail ≡ Some read = ap (λ xs. read_tail xs tail) (sym front) ∙ follows in
-        let tells = read_tail-tells tail read reads in
-        record {
-          term = tells.term;
-          is = tells.is;
-          spelled = ap (λ xs. 34 ∷ xs) (split ∙ ap (λ xs. escaped lexical ++ xs) (after_char-some 34 end tail closed)) ∙ tells.spelled;
-          parts = tells.parts;
-        })
+      let reads : read_tail (escaped lexical) tail ≡ Some read = ap (λ xs. read_tail xs tail) (sym front) ∙ follows in
+      let tells = read_tail-tells tail read reads in
+      record {
+        term = tells.term;
+        is = tells.is;
+        spelled = ap (λ xs. 34 ∷ xs) (split ∙ ap (λ xs. escaped lexical ++ xs) (after_char-some 34 end tail closed)) ∙ tells.spelled;
+        parts = tells.parts;
+      })
 
 front_first : (c : ℕ) (cs : List ℕ) (read : Read) → Tells cs (c ∷ []) read → Tells (c ∷ cs) [] read
 front_first c cs read tells = record { term = tells.term; is = tells.is; spelled = tells.spelled; parts = tells.parts }
@@ -229,7 +229,7 @@ read_literal-again : (lexical tail : List ℕ) (read : Read) → read_tail (esca
 unfolding read_literal
 read_literal-again lexical tail read e =
     let end : after_pieces after_spelling (escaped lexical ++ 34 ∷ tail) ≡ 34 ∷ tail =
-      after_spellings-escaped lexical (34 ∷ tail) ∙ after_spellings-none (34 ∷ tail) (after_spelling-quotation_mark tail) in
+    after_spellings-escaped lexical (34 ∷ tail) ∙ after_spellings-none (34 ∷ tail) (after_spelling-quotation_mark tail) in
     rw (end, before-append (escaped lexical) (34 ∷ tail)) e
 
 -- what is read of a text of characters is a term whose text it is
@@ -240,20 +240,20 @@ read_term-tells (c ∷ cs) read scalars e =
     elim (c == 60) as (λ b. (c == 60) ≡ b → (if b then read_iri cs else (if c == 95 then read_blank cs else (if c == 34 then read_literal cs else None))) ≡ Some read → Tells (c ∷ cs) [] read) [
       | true ↦ λ f h. let same = eqb-true c 60 f in rw same (front_first 60 cs read (read_iri-tells cs read h))
       | false ↦ λ f h.
-        elim (c == 95) as (λ b. (c == 95) ≡ b → (if b then read_blank cs else (if c == 34 then read_literal cs else None)) ≡ Some read → Tells (c ∷ cs) [] read) [
-          | true ↦ λ g k. let same = eqb-true c 95 g in rw same (front_first 95 cs read (read_blank-tells cs read k))
-          | false ↦ λ g k.
-            elim (c == 34) as (λ b. (c == 34) ≡ b → (if b then read_literal cs else None) ≡ Some read → Tells (c ∷ cs) [] read) [
-              | true ↦ λ m n.
-                let same = eqb-true c 34 m in
-                let (lexical, split) = spellings-split cs in
-                let (first, others) = and_parts (scalar c) (all_scalars cs) scalars in
-                let spelled = scalars_front (escaped lexical) (after_pieces after_spelling cs) (subst (λ xs. all_scalars xs ≡ true) split others) in
-                let is : all_scalars lexical ≡ true = sym (all_scalars-escaped lexical) ∙ spelled in
-                rw same (front_first 34 cs read (read_literal-tells lexical is cs read split n))
-              | false ↦ λ m n. absurd (cc)
-            ] refl k
-        ] refl h
+          elim (c == 95) as (λ b. (c == 95) ≡ b → (if b then read_blank cs else (if c == 34 then read_literal cs else None)) ≡ Some read → Tells (c ∷ cs) [] read) [
+            | true ↦ λ g k. let same = eqb-true c 95 g in rw same (front_first 95 cs read (read_blank-tells cs read k))
+            | false ↦ λ g k.
+                elim (c == 34) as (λ b. (c == 34) ≡ b → (if b then read_literal cs else None) ≡ Some read → Tells (c ∷ cs) [] read) [
+                  | true ↦ λ m n.
+                      let same = eqb-true c 34 m in
+                      let (lexical, split) = spellings-split cs in
+                      let (first, others) = and_parts (scalar c) (all_scalars cs) scalars in
+                      let spelled = scalars_front (escaped lexical) (after_pieces after_spelling cs) (subst (λ xs. all_scalars xs ≡ true) split others) in
+                      let is : all_scalars lexical ≡ true = sym (all_scalars-escaped lexical) ∙ spelled in
+                      rw same (front_first 34 cs read (read_literal-tells lexical is cs read split n))
+                  | false ↦ λ m n. absurd (cc)
+                ] refl k
+          ] refl h
     ] refl e
 
 -- each term's text is read, as its parts

@@ -116,9 +116,10 @@ chars-empty (b ∷ bs) text_utf8 =
 pub bytes_eq-chars : (text ascii : List ℕ) → IsUtf8 text → IsAscii ascii → bytes_eq text ascii ≡ bytes_eq (chars text) ascii
 bytes_eq-chars text ascii text_utf8 is_ascii =
     same_from_decides (bytes_eq text ascii) (bytes_eq (chars text) ascii)
-    (bytes_eq-Decides text ascii)
-    (λ e. let same = (bytes_eq-Decides (chars text) ascii).0 e in sym (encodes-chars text text_utf8) ∙ ap encode_utf8_all same ∙ encodes-IsAscii ascii is_ascii,
-     λ same. (bytes_eq-Decides (chars text) ascii).1 (rw same (chars-IsAscii ascii is_ascii)))
+    (bytes_eq-Decides text ascii) (
+      λ e. let same = (bytes_eq-Decides (chars text) ascii).0 e in sym (encodes-chars text text_utf8) ∙ ap encode_utf8_all same ∙ encodes-IsAscii ascii is_ascii,
+      λ same. (bytes_eq-Decides (chars text) ascii).1 (rw same (chars-IsAscii ascii is_ascii)),
+    )
 
 pub IsAscii-list_all : (bytes : List ℕ) → list_all (λ b. nat_lt b 128) bytes ≡ true → IsAscii bytes
 IsAscii-list_all [] all = IsAscii-nil

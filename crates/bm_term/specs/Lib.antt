@@ -4,6 +4,7 @@ pub mod Escapes
 pub mod Iri
 pub mod Marks
 pub mod Names
+pub mod Parts
 pub mod Reading
 pub mod Repetition
 pub mod Text

@@ -27,6 +27,7 @@ pub use classes::{
 pub use escape::{echar_value, escape_letter};
 pub use iri::{GREATER_THAN, LESS_THAN, is_iri, is_iri_char};
 pub use names::{after_dotted_name, after_language_tag};
+pub use reading::parts;
 pub use term::Term;
 pub use term_parts::{Parts, TermKind};
 pub use term_ref::TermRef;

@@ -1,9 +1,10 @@
 // The parts of a canonical text, read from its front.
-ghost use Rattle.std.specs.Prelude.{◌≡◌, IfSome, bytes_eq};
+ghost use Rattle.std.specs.Prelude.{◌≡◌, ◌↔◌, IsSome, IsSomeAnd, IfSome, bytes_eq};
 ghost use Rattle.std.specs.Option.{option_map};
 ghost use Rattle.std.specs.Str.{chars, IsUtf8};
 ghost use Rattle.bm_term.specs.Repetition.{after_pieces};
-ghost use Rattle.bm_term.specs.Canonical.{xsd_string};
+ghost use Rattle.bm_term.specs.Canonical.{RdfTerm, IsTerm, canonical_text, IsCanonical, built, xsd_string};
+ghost use Rattle.bm_term.specs.Parts.{Shows};
 ghost use Rattle.bm_term.specs.Reading.{at_end, is_escape_letter, after_escape, after_spelling, split_iri, read_iri, read_blank, read_tagged, read_typed, read_tail, read_literal, read_term, shown};
 
 use crate::class_types::{Irichar, LowerAlphanumeric, LowerLetter, NtLabelFirst, NtPnChars};
@@ -14,9 +15,25 @@ use crate::text::{after_char, after_run, before, is_at_end, split_char};
 
 const XSD_STRING: &str = "http://www.w3.org/2001/XMLSchema#string";
 
+/// The parts of a canonical text. `None` exactly where the bytes are no canonical text.
+pub fn parts(bytes: &[u8]) -> Option<Parts<'_>>
+    ensures canonical { IsSome result ↔ IsCanonical bytes.now }
+
+    // Each term's text has the term's parts.
+    ensures of_term { (term : RdfTerm) → IsTerm term → bytes.now ≡ canonical_text term → IsSomeAnd result (λ p. Shows p term) }
+
+    // The parts build the text again.
+    ensures rebuilt { IfSome result (λ p. bytes.now ≡ built p.kind p.body.now p.tail.now) }
+{
+    match str::from_utf8(bytes) {
+        Ok(text) => read_term(text),
+        Err(_) => None,
+    }
+}
+
 // The parts of a text, where it is canonical.
 #[tactic(auto, unfolding(crate::specs::Reading::read_term))]
-pub(crate) fn read_term(text: &str) -> Option<Parts<'_>>
+fn read_term(text: &str) -> Option<Parts<'_>>
     ensures parts { option_map shown result ≡ read_term (chars text.now) }
     ensures utf8 { IfSome result (λ p. IsUtf8 p.body.now × IsUtf8 p.tail.now) }
 {
