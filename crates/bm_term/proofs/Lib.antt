@@ -9,3 +9,4 @@ pub mod Spellings
 pub mod TermScalars
 pub mod TermTexts
 pub mod PartsLaws
+pub mod Unescaping

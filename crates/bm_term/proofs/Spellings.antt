@@ -33,7 +33,7 @@ escape_letter-onto letter e =
     ]
 
 -- and no character but these five letters
-escape_letter-into : (c letter : ℕ) → escape_letter c ≡ Some letter → is_escape_letter letter ≡ true
+pub escape_letter-into : (c letter : ℕ) → escape_letter c ≡ Some letter → is_escape_letter letter ≡ true
 unfolding escape_letter is_escape_letter
 escape_letter-into c letter e = grind (arith, nat_tests)
 
@@ -60,7 +60,7 @@ after_spelling-passes (c ∷ cs) rest e =
       | false ↦ λ f h. raw_passes c cs rest h
     ] refl e
 
-raw_is_no_backslash : (c : ℕ) → escape_letter c ≡ None → (c == 92) ≡ false
+pub raw_is_no_backslash : (c : ℕ) → escape_letter c ≡ None → (c == 92) ≡ false
 unfolding escape_letter
 raw_is_no_backslash c e = grind (arith, nat_tests)
 
@@ -111,11 +111,11 @@ after_spellings-escaped lexical rest =
     (λ front rest c spelled _. rw spelled (after_spelling-spelling c rest)) lexical (escaped lexical) rest (are_spellings lexical) tt
 
 -- what is escaped, and its letter, are ASCII
-escaped_is_ascii : (c letter : ℕ) → escape_letter c ≡ Some letter → c < 128
+pub escaped_is_ascii : (c letter : ℕ) → escape_letter c ≡ Some letter → c < 128
 unfolding escape_letter
 escaped_is_ascii c letter e = grind (arith, nat_tests)
 
-letter_is_ascii : (letter : ℕ) → is_escape_letter letter ≡ true → letter < 128
+pub letter_is_ascii : (letter : ℕ) → is_escape_letter letter ≡ true → letter < 128
 unfolding is_escape_letter
 letter_is_ascii letter e = grind (arith, nat_tests)
 

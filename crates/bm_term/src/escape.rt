@@ -1,7 +1,11 @@
 // How characters are escaped in literals.
-ghost use Rattle.std.specs.Prelude.{◌≡◌};
+ghost use Rattle.std.specs.Prelude.{◌≡◌, ℕ, List, IfOk};
+ghost use Rattle.std.specs.Option.{option_map};
+ghost use Rattle.std.specs.Str.{encode_utf8_all};
 ghost use Rattle.bm_term.specs.Canonical.{escape_letter};
-ghost use Rattle.bm_term.specs.Escapes.{echar_value};
+ghost use Rattle.bm_term.specs.Escapes.{echar_value, escaped_value, unescaped, first_unescaped, SpellsForm, IsBody};
+
+use std::alloc::{AllocError, Global};
 
 /// The letter that stands after a backslash for a character that may not stand raw in a canonical
 /// literal. `None` for any other character: it stands raw.
@@ -33,5 +37,50 @@ pub fn echar_value(letter: char) -> Option<char>
         'f' => Some('\u{c}'),
         '"' | '\'' | '\\' => Some(letter),
         _ => None,
+    }
+}
+
+/// The lexical form that the body of a canonical literal spells.
+pub fn unescape(alloc: Global, body: &[u8]) -> Result<Vec<u8>, AllocError>
+    requires { IsBody body.now }
+    ensures { IfOk result (λ form. (lexical : List ℕ) → SpellsForm body.now lexical → form.items ≡ encode_utf8_all lexical) }
+{
+    unescaped(alloc, body)
+}
+
+// The bytes with each escape replaced by what it stands for.
+#[tactic(auto, using(crate::proofs::Unescaping::unescaping))]
+fn unescaped(alloc: Global, body: &[u8]) -> Result<Vec<u8>, AllocError>
+    ensures { IfOk result (λ form. form.items ≡ unescaped body.now) }
+{
+    let mut form = Vec::with_capacity(alloc, body.len())?;
+    let mut rest = body;
+    while let Some((byte, after)) = first_unescaped(rest) {
+        form.push(byte)?;
+        rest = after;
+    }
+    Ok(form)
+}
+
+#[tactic(auto, unfolding(crate::specs::Escapes::first_unescaped))]
+fn first_unescaped(body: &[u8]) -> Option<(u8, &[u8])>
+    ensures { option_map (λ p. (p.0, p.1.now)) result ≡ first_unescaped body.now }
+{
+    match body {
+        [b'\\', letter, rest @ ..] => Some((escaped_value(*letter), rest)),
+        [byte, rest @ ..] => Some((*byte, rest)),
+        [] => None,
+    }
+}
+
+#[tactic(auto, unfolding(crate::specs::Escapes::escaped_value))]
+fn escaped_value(letter: u8) -> u8
+    ensures { result ≡ escaped_value letter }
+{
+    match letter {
+        b'n' => b'\n',
+        b'r' => b'\r',
+        b't' => b'\t',
+        _ => letter,
     }
 }

@@ -24,7 +24,7 @@ pub use classes::{
     is_lower_letter, is_nt_label_first, is_nt_pn_chars, is_nt_pn_chars_u, is_pn_chars_base,
     is_scalar, is_sparql_label_first, is_sparql_pn_chars, is_sparql_pn_chars_u,
 };
-pub use escape::{echar_value, escape_letter};
+pub use escape::{echar_value, escape_letter, unescape};
 pub use iri::{GREATER_THAN, LESS_THAN, is_iri, is_iri_char};
 pub use names::{after_dotted_name, after_language_tag};
 pub use reading::parts;

@@ -1,0 +1,11 @@
+use Rattle.std.proofs.Common.{◌≡◌, ℕ, List, ◌∙◌}
+use Rattle.std.proofs.lemmas.Result.{IfOk-weaker}
+use Rattle.std.specs.Str.{encode_utf8_all}
+use Rattle.bm_term.specs.Escapes.{unescaped, SpellsForm}
+use Rattle.bm_term.proofs.Unescaping.{unescaped-body}
+use Rattle.bm_term.proofs.escape.unescape.Goals as goal
+
+pub returns : goal.returns
+returns c =
+    IfOk-weaker c.unescaped.result (λ form. form.items ≡ unescaped c.args.body.now) (λ form. (lexical : List ℕ) → SpellsForm c.args.body.now lexical → form.items ≡ encode_utf8_all lexical)
+    (λ form same lexical spells. same ∙ unescaped-body c.args.body.now lexical spells) c.unescaped.ensures
