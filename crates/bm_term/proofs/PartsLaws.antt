@@ -8,7 +8,8 @@ use Rattle.std.proofs.lemmas.Option.{same_Some}
 use Rattle.bm_term.specs.declared.term_parts.TermKind.{TermKind}
 use Rattle.bm_term.specs.declared.term_parts.TermKind.TheVariants.{Iri, Blank, Plain, Tagged, Typed}
 use Rattle.bm_term.specs.declared.term_parts.Parts.{Parts}
-use Rattle.bm_term.specs.Canonical.{RdfTerm, IsTerm, kind_of, body_of, tail_of, built, canonical_chars, canonical_text, IsCanonical}
+use Rattle.bm_term.specs.Canonical.{RdfTerm, IsTerm, kind_of, body_of, tail_of, built, canonical_chars, canonical_text, IsCanonical, IsTextOf, iri, blank, plain, tagged, typed}
+use Rattle.bm_term.specs.Escapes.{IsBodyOf}
 use Rattle.bm_term.specs.Parts.{Shows}
 use Rattle.bm_term.specs.Reading.{Read, read_term, shown}
 use Rattle.bm_term.proofs.TermScalars.{canonical_scalars}
@@ -32,6 +33,13 @@ encode-built Typed body tail = rw (encodes-append body (34 ∷ 94 ∷ 94 ∷ 60 
 IsSomeAnd-some : {A : Type 0} (P : A → Type 0) (result : Option A) → IsSomeAnd result P → IsSome result
 IsSomeAnd-some P None h = absurd h
 IsSomeAnd-some P (Some x) h = refl
+
+term_is_body_of : (term : RdfTerm) (body : List ℕ) → IsTerm term → body ≡ encode_utf8_all (body_of term) → IsBodyOf (kind_of term) body
+term_is_body_of (iri cs) body is spelled = tt
+term_is_body_of (blank label) body is spelled = tt
+term_is_body_of (plain lexical) body is spelled = (lexical, record { characters = is; spelled = spelled })
+term_is_body_of (tagged lexical tag) body is spelled = (lexical, record { characters = is.0; spelled = spelled })
+term_is_body_of (typed lexical datatype) body is spelled = (lexical, record { characters = is.0; spelled = spelled })
 
 module _ (bytes : List ℕ) (bytes_utf8 : IsUtf8 bytes) where
   -- what was read of the characters
@@ -70,3 +78,16 @@ module _ (bytes : List ℕ) (bytes_utf8 : IsUtf8 bytes) where
 
   pub found_where_canonical : (result : Option Parts) → Found result → IsCanonical bytes → IsSome result
   found_where_canonical result found (term, is, spelled) = IsSomeAnd-some (λ p. Shows p term) result (of_term_shows result found term is spelled)
+
+  pub found_is_text_of : (result : Option Parts) → Found result → IfSome result (λ p. IsTextOf p.kind bytes)
+  found_is_text_of None found = tt
+  found_is_text_of (Some p) found =
+      let tells = read_term-tells (chars bytes) (shown p) (scalars-chars bytes bytes_utf8) (sym found.parts) in
+      (tells.term, tells.is, ap (λ (r : Read). r.0) tells.parts, sym (encodes-chars bytes bytes_utf8) ∙ ap encode_utf8_all tells.spelled)
+
+  pub found_is_body_of : (result : Option Parts) → Found result → IfSome result (λ p. IsBodyOf p.kind p.body.now)
+  found_is_body_of None found = tt
+  found_is_body_of (Some p) found =
+      let tells = read_term-tells (chars bytes) (shown p) (scalars-chars bytes bytes_utf8) (sym found.parts) in
+      let spelled : p.body.now ≡ encode_utf8_all (body_of tells.term) = sym (encodes-chars p.body.now found.utf8.0) ∙ ap (λ (r : Read). encode_utf8_all r.1) (sym tells.parts) in
+      subst (λ kind. IsBodyOf kind p.body.now) (ap (λ (r : Read). r.0) tells.parts) (term_is_body_of tells.term p.body.now tells.is spelled)

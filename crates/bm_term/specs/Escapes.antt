@@ -2,6 +2,8 @@
 -- ECHAR ::= '\' [tbnrf"'\]. N-Triples 1.1, section 7.
 use Rattle.std.specs.Prelude.{ℕ, ◌==◌, ◌||◌, if◌then◌else◌, IsTrue, Option, Some, None, ◌≡◌, List, [], ◌∷◌}
 use Rattle.std.specs.Str.{all_scalars, encode_utf8_all}
+use Rattle.bm_term.specs.declared.term_parts.TermKind.{TermKind}
+use Rattle.bm_term.specs.declared.term_parts.TermKind.TheVariants.{Iri, Blank, Plain, Tagged, Typed}
 use Rattle.bm_term.specs.Canonical.{escaped}
 use Rattle.bm_term.specs.Marks.{tab, line_feed, carriage_return, quotation_mark, backslash}
 
@@ -23,6 +25,14 @@ pub record SpellsForm (body lexical : List ℕ) : Type 0 where
 -- the body of a literal spells some lexical form
 abbrev pub IsBody : List ℕ → Type 0
 IsBody body = (lexical : List ℕ) × SpellsForm body lexical
+
+-- literals have such bodies, of each of their kinds
+abbrev pub IsBodyOf : TermKind → List ℕ → Type 0
+IsBodyOf Plain body = IsBody body
+IsBodyOf Tagged body = IsBody body
+IsBodyOf Typed body = IsBody body
+IsBodyOf Iri body = Unit {0}
+IsBodyOf Blank body = Unit {0}
 
 -- the character for which a letter stands in a canonical literal, after a backslash
 unfoldable pub escaped_value : ℕ → ℕ

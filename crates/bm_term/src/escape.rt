@@ -1,7 +1,7 @@
 // How characters are escaped in literals.
 ghost use Rattle.std.specs.Prelude.{◌≡◌, ℕ, List, IfOk};
 ghost use Rattle.std.specs.Option.{option_map};
-ghost use Rattle.std.specs.Str.{encode_utf8_all};
+ghost use Rattle.std.specs.Str.{encode_utf8_all, IsUtf8};
 ghost use Rattle.bm_term.specs.Canonical.{escape_letter};
 ghost use Rattle.bm_term.specs.Escapes.{echar_value, escaped_value, unescaped, first_unescaped, SpellsForm, IsBody};
 
@@ -43,7 +43,8 @@ pub fn echar_value(letter: char) -> Option<char>
 /// The lexical form that the body of a canonical literal spells.
 pub fn unescape(alloc: Global, body: &[u8]) -> Result<Vec<u8>, AllocError>
     requires { IsBody body.now }
-    ensures { IfOk result (λ form. (lexical : List ℕ) → SpellsForm body.now lexical → form.items ≡ encode_utf8_all lexical) }
+    ensures form { IfOk result (λ form. (lexical : List ℕ) → SpellsForm body.now lexical → form.items ≡ encode_utf8_all lexical) }
+    ensures utf8 { IfOk result (λ form. IsUtf8 form.items) }
 {
     unescaped(alloc, body)
 }

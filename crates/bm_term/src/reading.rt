@@ -3,7 +3,8 @@ ghost use Rattle.std.specs.Prelude.{◌≡◌, ◌↔◌, IsSome, IsSomeAnd, IfS
 ghost use Rattle.std.specs.Option.{option_map};
 ghost use Rattle.std.specs.Str.{chars, IsUtf8};
 ghost use Rattle.bm_term.specs.Repetition.{after_pieces};
-ghost use Rattle.bm_term.specs.Canonical.{RdfTerm, IsTerm, canonical_text, IsCanonical, built, xsd_string};
+ghost use Rattle.bm_term.specs.Canonical.{RdfTerm, IsTerm, canonical_text, IsCanonical, IsTextOf, built, xsd_string};
+ghost use Rattle.bm_term.specs.Escapes.{IsBodyOf};
 ghost use Rattle.bm_term.specs.Parts.{Shows};
 ghost use Rattle.bm_term.specs.Reading.{at_end, is_escape_letter, after_escape, after_spelling, split_iri, read_iri, read_blank, read_tagged, read_typed, read_tail, read_literal, read_term, shown};
 
@@ -24,6 +25,9 @@ pub fn parts(bytes: &[u8]) -> Option<Parts<'_>>
 
     // The parts build the text again.
     ensures rebuilt { IfSome result (λ p. bytes.now ≡ built p.kind p.body.now p.tail.now) }
+    ensures kind { IfSome result (λ p. IsTextOf p.kind bytes.now) }
+    ensures body { IfSome result (λ p. IsBodyOf p.kind p.body.now) }
+    ensures utf8 { IfSome result (λ p. IsUtf8 p.body.now × IsUtf8 p.tail.now) }
 {
     match str::from_utf8(bytes) {
         Ok(text) => read_term(text),

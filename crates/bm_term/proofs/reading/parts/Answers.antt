@@ -1,4 +1,4 @@
-use Rattle.bm_term.proofs.PartsLaws.{Found, canonical_utf8, found_is_canonical, found_where_canonical, of_term_shows, found_builds}
+use Rattle.bm_term.proofs.PartsLaws.{Found, canonical_utf8, found_is_canonical, found_where_canonical, of_term_shows, found_builds, found_is_text_of, found_is_body_of}
 use Rattle.bm_term.proofs.reading.parts.Goals as goal
 
 pub returns-in-Ok-clause-canonical : goal.returns-in-Ok-clause-canonical
@@ -20,6 +20,18 @@ returns-in-Ok-clause-rebuilt c =
     let (same, utf8) = c.in-Ok.ensures.cases in
     let found : Found c.args.bytes.now utf8 c.read_term.result = record { parts = rw same at c.read_term.ensures.parts; utf8 = c.read_term.ensures.utf8 } in
     found_builds c.args.bytes.now utf8 c.read_term.result found
+
+pub returns-in-Ok-clause-kind : goal.returns-in-Ok-clause-kind
+returns-in-Ok-clause-kind c =
+    let (same, utf8) = c.in-Ok.ensures.cases in
+    let found : Found c.args.bytes.now utf8 c.read_term.result = record { parts = rw same at c.read_term.ensures.parts; utf8 = c.read_term.ensures.utf8 } in
+    found_is_text_of c.args.bytes.now utf8 c.read_term.result found
+
+pub returns-in-Ok-clause-body : goal.returns-in-Ok-clause-body
+returns-in-Ok-clause-body c =
+    let (same, utf8) = c.in-Ok.ensures.cases in
+    let found : Found c.args.bytes.now utf8 c.read_term.result = record { parts = rw same at c.read_term.ensures.parts; utf8 = c.read_term.ensures.utf8 } in
+    found_is_body_of c.args.bytes.now utf8 c.read_term.result found
 
 pub returns-in-Err-clause-canonical : goal.returns-in-Err-clause-canonical
 returns-in-Err-clause-canonical c =
