@@ -95,10 +95,15 @@ canonical_chars term = built (kind_of term) (body_of term) (tail_of term)
 abbrev pub canonical_text : RdfTerm → List ℕ
 canonical_text term = encode_utf8_all (canonical_chars term)
 
--- the text is the canonical text of a term of this kind
-abbrev pub IsTextOf : TermKind → List ℕ → Type 0
-IsTextOf kind text = (term : RdfTerm) × IsTerm term × (kind_of term ≡ kind) × (text ≡ canonical_text term)
-
 -- the text is the canonical text of a term
-abbrev pub IsCanonical : List ℕ → Type 0
-IsCanonical text = (term : RdfTerm) × IsTerm term × (text ≡ canonical_text term)
+pub record IsCanonical (text : List ℕ) : Type 0 where
+  pub term : RdfTerm
+  pub is : IsTerm term
+  pub spelled : text ≡ canonical_text term
+
+-- and that term is of this kind
+pub record IsTextOf (kind : TermKind) (text : List ℕ) : Type 0 where
+  pub term : RdfTerm
+  pub is : IsTerm term
+  pub kind_is : kind_of term ≡ kind
+  pub spelled : text ≡ canonical_text term

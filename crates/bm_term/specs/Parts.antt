@@ -1,11 +1,21 @@
--- What the parts of a canonical text show.
-use Rattle.std.specs.Prelude.{◌≡◌}
-use Rattle.std.specs.Str.{encode_utf8_all}
+-- What the parts of a canonical text are.
+use Rattle.std.specs.Prelude.{◌≡◌, ℕ, List}
+use Rattle.std.specs.Str.{IsUtf8, encode_utf8_all}
 use Rattle.bm_term.specs.declared.term_parts.Parts.{Parts}
-use Rattle.bm_term.specs.Canonical.{RdfTerm, kind_of, body_of, tail_of}
+use Rattle.bm_term.specs.Canonical.{RdfTerm, IsTerm, kind_of, body_of, tail_of, canonical_text, built, IsTextOf}
+use Rattle.bm_term.specs.Escapes.{IsBodyOf}
 
--- the term's kind, and the bytes of its body and of its tail
+-- they show the term: its kind, and the bytes of its body and of its tail
 pub record Shows (parts : Parts) (term : RdfTerm) : Type 0 where
   pub kind : parts.kind ≡ kind_of term
   pub body : parts.body.now ≡ encode_utf8_all (body_of term)
   pub tail : parts.tail.now ≡ encode_utf8_all (tail_of term)
+
+-- they show the term whose text it is, and build the text again
+pub record ArePartsOf (text : List ℕ) (parts : Parts) : Type 0 where
+  pub of_term : (term : RdfTerm) → IsTerm term → text ≡ canonical_text term → Shows parts term
+  pub rebuilt : text ≡ built parts.kind parts.body.now parts.tail.now
+  pub kind : IsTextOf parts.kind text
+  pub body : IsBodyOf parts.kind parts.body.now
+  pub body_utf8 : IsUtf8 parts.body.now
+  pub tail_utf8 : IsUtf8 parts.tail.now

@@ -1,11 +1,10 @@
 // The parts of a canonical text, read from its front.
-ghost use Rattle.std.specs.Prelude.{◌≡◌, ◌↔◌, IsSome, IsSomeAnd, IfSome, bytes_eq};
+ghost use Rattle.std.specs.Prelude.{◌≡◌, ◌↔◌, IsSome, IfSome, bytes_eq};
 ghost use Rattle.std.specs.Option.{option_map};
 ghost use Rattle.std.specs.Str.{chars, IsUtf8};
 ghost use Rattle.bm_term.specs.Repetition.{after_pieces};
-ghost use Rattle.bm_term.specs.Canonical.{RdfTerm, IsTerm, canonical_text, IsCanonical, IsTextOf, built, xsd_string};
-ghost use Rattle.bm_term.specs.Escapes.{IsBodyOf};
-ghost use Rattle.bm_term.specs.Parts.{Shows};
+ghost use Rattle.bm_term.specs.Canonical.{IsCanonical, xsd_string};
+ghost use Rattle.bm_term.specs.Parts.{ArePartsOf};
 ghost use Rattle.bm_term.specs.Reading.{at_end, is_escape_letter, after_escape, after_spelling, split_iri, read_iri, read_blank, read_tagged, read_typed, read_tail, read_literal, read_term, shown};
 
 use crate::class_types::{Irichar, LowerAlphanumeric, LowerLetter, NtLabelFirst, NtPnChars};
@@ -19,15 +18,7 @@ const XSD_STRING: &str = "http://www.w3.org/2001/XMLSchema#string";
 /// The parts of a canonical text. `None` exactly where the bytes are no canonical text.
 pub fn parts(bytes: &[u8]) -> Option<Parts<'_>>
     ensures canonical { IsSome result ↔ IsCanonical bytes.now }
-
-    // Each term's text has the term's parts.
-    ensures of_term { (term : RdfTerm) → IsTerm term → bytes.now ≡ canonical_text term → IsSomeAnd result (λ p. Shows p term) }
-
-    // The parts build the text again.
-    ensures rebuilt { IfSome result (λ p. bytes.now ≡ built p.kind p.body.now p.tail.now) }
-    ensures kind { IfSome result (λ p. IsTextOf p.kind bytes.now) }
-    ensures body { IfSome result (λ p. IsBodyOf p.kind p.body.now) }
-    ensures utf8 { IfSome result (λ p. IsUtf8 p.body.now × IsUtf8 p.tail.now) }
+    ensures parts { IfSome result (ArePartsOf bytes.now) }
 {
     match str::from_utf8(bytes) {
         Ok(text) => read_term(text),
