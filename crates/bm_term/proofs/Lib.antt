@@ -10,3 +10,4 @@ pub mod TermScalars
 pub mod TermTexts
 pub mod PartsLaws
 pub mod Unescaping
+pub mod Inverse

@@ -25,7 +25,7 @@ canonical_utf8 bytes text = (canonical_chars text.term, (canonical_scalars text.
 chars-canonical : (bytes : List ℕ) (term : RdfTerm) → IsTerm term → bytes ≡ canonical_text term → chars bytes ≡ canonical_chars term
 chars-canonical bytes term is spelled = ap chars spelled ∙ chars-encodes (canonical_chars term) (canonical_scalars term is)
 
-reads_canonical : (bytes : List ℕ) (term : RdfTerm) → IsTerm term → bytes ≡ canonical_text term → read_term (chars bytes) ≡ Some (parts_of term)
+pub reads_canonical : (bytes : List ℕ) (term : RdfTerm) → IsTerm term → bytes ≡ canonical_text term → read_term (chars bytes) ≡ Some (parts_of term)
 reads_canonical bytes term is spelled = rw (chars-canonical bytes term is spelled) (read_term-again term is)
 
 -- the marks between the parts are ASCII

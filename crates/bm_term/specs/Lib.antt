@@ -2,10 +2,12 @@ pub mod Canonical
 pub mod Classes
 pub mod Escapes
 pub mod Iri
+pub mod Kept
 pub mod Marks
 pub mod Names
 pub mod Parts
 pub mod Reading
 pub mod Repetition
 pub mod Text
+pub mod Triple
 pub mod TermRef
