@@ -11,3 +11,6 @@ pub mod TermTexts
 pub mod PartsLaws
 pub mod Unescaping
 pub mod Inverse
+pub mod Taking
+pub mod Examples
+pub mod PlainIris

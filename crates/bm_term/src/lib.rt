@@ -28,7 +28,10 @@ pub use classes::{
 };
 pub use escape::{echar_value, escape_letter, unescape};
 pub use iri::{GREATER_THAN, LESS_THAN, is_iri, is_iri_char};
-pub use laws::{each_term_has_its_own_text, parts_are_the_term};
+pub use laws::{
+    all_is_kept_without_a_limit, each_term_has_its_own_text, lists_are_taken_in_a_row,
+    parts_are_the_term,
+};
 pub use names::{after_dotted_name, after_language_tag};
 pub use reading::parts;
 pub use taker::{Taker, TripleList};
