@@ -4,6 +4,7 @@ use Rattle.std.proofs.lemmas.Bool.{and_parts, cases_lt}
 use Rattle.std.proofs.lemmas.Bool.Decides.{nat_tests}
 use Rattle.std.specs.Cmp.Derive.{both_true}
 use Rattle.std.specs.List.{list_all}
+use Rattle.std.specs.Option.{option_map}
 use Rattle.std.proofs.lemmas.Option.{same_Some, some_pair_parts}
 use Rattle.std.proofs.lemmas.Str.{encodes-append, encode_ascii, encodes-IsAscii}
 use Rattle.std.proofs.lemmas.List.Concat.{flat_map-append}
@@ -139,3 +140,14 @@ encode-escaped (c ∷ cs) =
 pub unescaped-body : (body lexical : List ℕ) → SpellsForm body lexical → unescaped body ≡ encode_utf8_all lexical
 unescaped-body body lexical spells =
     ap unescaped (spells.spelled ∙ encode-escaped lexical) ∙ unescaped-escaped (encode_utf8_all lexical)
+
+-- the bytes of an escape
+pub encode-escape : (c : ℕ) (text : List ℕ) → Some text ≡ option_map (λ letter. 92 ∷ letter ∷ []) (escape_letter c) → encode_utf8_all (spelling c) ≡ text
+encode-escape c text e =
+    elim (escape_letter c) as (λ r. escape_letter c ≡ r → Some text ≡ option_map (λ letter. 92 ∷ letter ∷ []) r → encode_utf8_all (spelled_by c r) ≡ text) [
+      | None ↦ λ raw h. absurd (cc)
+      | Some letter ↦ λ found h.
+          let letter_small = letter_is_ascii letter (escape_letter-into c letter found) in
+          let same : text ≡ 92 ∷ letter ∷ [] = same_Some text (92 ∷ letter ∷ []) h in
+          rw (encode_ascii 92 (omega arith), encode_ascii letter letter_small) (sym same)
+    ] refl e

@@ -1,8 +1,9 @@
 // How characters are escaped in literals.
-ghost use Rattle.std.specs.Prelude.{◌≡◌, ℕ, List, IfOk};
+ghost use Rattle.std.specs.Prelude.{◌≡◌, ℕ, List, [], ◌∷◌, ◌++◌, IfOk, OnOk, OnErr, string_bytes};
 ghost use Rattle.std.specs.Option.{option_map};
 ghost use Rattle.std.specs.Str.{encode_utf8_all, IsUtf8};
-ghost use Rattle.bm_term.specs.Canonical.{escape_letter};
+ghost use Rattle.bm_term.specs.Canonical.{escape_letter, spelling};
+ghost use Rattle.bm_term.specs.Marks.{backslash};
 ghost use Rattle.bm_term.specs.Escapes.{echar_value, escaped_value, unescaped, first_unescaped, SpellsForm, IsBody};
 
 use std::alloc::{AllocError, Global};
@@ -83,5 +84,31 @@ fn escaped_value(letter: u8) -> u8
         b'r' => b'\r',
         b't' => b'\t',
         _ => letter,
+    }
+}
+
+/// Writes a character as it is spelled in a canonical literal. An `Err` changes nothing.
+pub fn push_spelling(out: &mut String, c: char) -> Result<(), AllocError>
+    ensures ok { OnOk result (string_bytes out.new ≡ string_bytes out.old ++ encode_utf8_all (spelling c)) }
+    ensures err { OnErr result (string_bytes out.new ≡ string_bytes out.old) }
+{
+    match escape_text(c) {
+        Some(escape) => out.push_str(escape),
+        None => out.push(c),
+    }
+}
+
+// The backslash and the letter of an escaped character.
+#[tactic(auto, unfolding(crate::specs::Canonical::escape_letter))]
+fn escape_text(c: char) -> Option<&'static str>
+    ensures { option_map (λ escape. escape.now) result ≡ option_map (λ letter. backslash ∷ letter ∷ []) (escape_letter c) }
+{
+    match c {
+        '"' => Some("\\\""),
+        '\\' => Some("\\\\"),
+        '\n' => Some("\\n"),
+        '\r' => Some("\\r"),
+        '\t' => Some("\\t"),
+        _ => None,
     }
 }

@@ -26,7 +26,7 @@ pub use classes::{
     is_lower_letter, is_nt_label_first, is_nt_pn_chars, is_nt_pn_chars_u, is_pn_chars_base,
     is_scalar, is_sparql_label_first, is_sparql_pn_chars, is_sparql_pn_chars_u,
 };
-pub use escape::{echar_value, escape_letter, unescape};
+pub use escape::{echar_value, escape_letter, push_spelling, unescape};
 pub use iri::{GREATER_THAN, LESS_THAN, is_iri, is_iri_char};
 pub use laws::{
     all_is_kept_without_a_limit, each_term_has_its_own_text, lists_are_taken_in_a_row,
