@@ -14,3 +14,4 @@ pub mod Inverse
 pub mod Taking
 pub mod Examples
 pub mod PlainIris
+pub mod ByteRuns

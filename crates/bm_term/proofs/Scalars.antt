@@ -14,3 +14,6 @@ all_scalars-append (c ∷ cs) ys =
 
 pub scalars_front : (xs ys : List ℕ) → all_scalars (xs ++ ys) ≡ true → all_scalars xs ≡ true
 scalars_front xs ys e = (and_parts (all_scalars xs) (all_scalars ys) (sym (all_scalars-append xs ys) ∙ e)).0
+
+pub scalars_back : (xs ys : List ℕ) → all_scalars (xs ++ ys) ≡ true → all_scalars ys ≡ true
+scalars_back xs ys e = (and_parts (all_scalars xs) (all_scalars ys) (sym (all_scalars-append xs ys) ∙ e)).1

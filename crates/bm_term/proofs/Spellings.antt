@@ -1,5 +1,5 @@
 -- The characters of a literal as they are spelled, read one by one.
-use Rattle.std.proofs.Common.{◌≡◌, ℕ, ◌<◌, Bool, true, false, ◌==◌, ◌||◌, ◌&&◌, if◌then◌else◌, ◌⊎◌, inl, inr, is_some, Option, Some, None, List, [], ◌∷◌, ◌++◌, length, refl, ap, ◌∙◌, sym, arith, length-append}
+use Rattle.std.proofs.Common.{◌≡◌, ℕ, ◌<◌, Bool, true, false, ◌==◌, ◌||◌, ◌&&◌, if◌then◌else◌, ◌⊎◌, inl, inr, is_none, Option, Some, None, List, [], ◌∷◌, ◌++◌, length, refl, ap, ◌∙◌, sym, arith, length-append}
 use Rattle.std.proofs.lemmas.Option.{cond_some}
 use Rattle.std.proofs.lemmas.Bool.{eqb-true}
 use Rattle.std.proofs.lemmas.Bool.Decides.{nat_tests}
@@ -44,9 +44,9 @@ escape_passes c (l ∷ ls) rest same e =
     let (v, letter) = escape_letter-onto l is_letter in
     (92 ∷ l ∷ [], v, rw letter refl, cc)
 
-raw_passes : (c : ℕ) (cs rest : List ℕ) → (if is_some (escape_letter c) then None else Some cs) ≡ Some rest → (front : List ℕ) × (v : ℕ) × IsSpelling front v × (c ∷ cs ≡ front ++ rest)
+raw_passes : (c : ℕ) (cs rest : List ℕ) → (if is_none (escape_letter c) then Some cs else None) ≡ Some rest → (front : List ℕ) × (v : ℕ) × IsSpelling front v × (c ∷ cs ≡ front ++ rest)
 raw_passes c cs rest e =
-    elim (escape_letter c) as (λ r. escape_letter c ≡ r → (if is_some r then None else Some cs) ≡ Some rest → (front : List ℕ) × (v : ℕ) × IsSpelling front v × (c ∷ cs ≡ front ++ rest)) [
+    elim (escape_letter c) as (λ r. escape_letter c ≡ r → (if is_none r then Some cs else None) ≡ Some rest → (front : List ℕ) × (v : ℕ) × IsSpelling front v × (c ∷ cs ≡ front ++ rest)) [
       | None ↦ λ raw h. (c ∷ [], c, rw raw refl, cc)
       | Some letter ↦ λ raw h. absurd (cc)
     ] refl e
@@ -55,7 +55,7 @@ after_spelling-passes : PassesPieces IsSpelling after_spelling
 unfolding after_spelling
 after_spelling-passes [] rest e = absurd (cc)
 after_spelling-passes (c ∷ cs) rest e =
-    elim (c == 92) as (λ b. (c == 92) ≡ b → (if b then after_escape cs else (if is_some (escape_letter c) then None else Some cs)) ≡ Some rest → (front : List ℕ) × (v : ℕ) × IsSpelling front v × (c ∷ cs ≡ front ++ rest)) [
+    elim (c == 92) as (λ b. (c == 92) ≡ b → (if b then after_escape cs else (if is_none (escape_letter c) then Some cs else None)) ≡ Some rest → (front : List ℕ) × (v : ℕ) × IsSpelling front v × (c ∷ cs ≡ front ++ rest)) [
       | true ↦ λ f h. escape_passes c cs rest (eqb-true c 92 f) h
       | false ↦ λ f h. raw_passes c cs rest h
     ] refl e

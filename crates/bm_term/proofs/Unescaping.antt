@@ -100,7 +100,7 @@ either_high true xs ys first second = first
 either_high false xs ys first second = second
 
 -- all bytes of such a character are beyond ASCII
-encode_is_high : (c : ℕ) → 128 ≤ c → list_all (λ b. nat_le 128 b) (encode c) ≡ true
+pub encode_is_high : (c : ℕ) → 128 ≤ c → list_all (λ b. nat_le 128 b) (encode c) ≡ true
 unfolding encode
 encode_is_high c high =
     let beyond : ltb c 128 ≡ false = grind (arith, nat_tests) in

@@ -1,5 +1,5 @@
 -- How the parts of a text are read from its front. The laws that tie this to canonical texts are in proofs/.
-use Rattle.std.specs.Prelude.{◌≡◌, ℕ, Bool, ◌||◌, ◌==◌, if◌then◌else◌, is_some, Option, Some, None, option_and_then, bytes_eq, List, [], ◌∷◌, length}
+use Rattle.std.specs.Prelude.{◌≡◌, ℕ, Bool, ◌||◌, ◌==◌, nat_le, if◌then◌else◌, is_none, Option, Some, None, option_and_then, bytes_eq, List, [], ◌∷◌, length}
 use Rattle.std.specs.Option.{option_map}
 use Rattle.std.specs.Str.{chars}
 use Rattle.bm_term.specs.declared.term_parts.TermKind.{TermKind}
@@ -33,7 +33,11 @@ after_escape (c ∷ cs) = if is_escape_letter c then Some cs else None
 unfoldable pub after_spelling : List ℕ → Option (List ℕ)
 after_spelling [] = None
 after_spelling (c ∷ cs) =
-    if c == backslash then after_escape cs else (if is_some (escape_letter c) then None else Some cs)
+    if c == backslash then after_escape cs else (if is_none (escape_letter c) then Some cs else None)
+
+-- a byte of IRICHARs: a member of the class, or a byte of a character beyond ASCII, which all are members
+unfoldable pub is_iri_byte : ℕ → Bool
+is_iri_byte b = nat_le 128 b || is_irichar b
 
 -- an IRI up to its closing bracket, and what follows that
 unfoldable pub split_iri : List ℕ → Option (List ℕ × List ℕ)

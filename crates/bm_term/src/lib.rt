@@ -10,6 +10,7 @@ mod iri;
 mod laws;
 mod names;
 mod reading;
+mod runs;
 mod taker;
 mod term;
 mod term_parts;

@@ -2,16 +2,15 @@
 ghost use Rattle.std.specs.Prelude.{◌≡◌, ◌↔◌, IsSome, IfSome, bytes_eq};
 ghost use Rattle.std.specs.Option.{option_map};
 ghost use Rattle.std.specs.Str.{chars, IsUtf8};
-ghost use Rattle.bm_term.specs.Repetition.{after_pieces};
 ghost use Rattle.bm_term.specs.Canonical.{IsCanonical, xsd_string};
 ghost use Rattle.bm_term.specs.Parts.{ArePartsOf};
-ghost use Rattle.bm_term.specs.Reading.{at_end, is_escape_letter, after_escape, after_spelling, split_iri, read_iri, read_blank, read_tagged, read_typed, read_tail, read_literal, read_term, shown};
+ghost use Rattle.bm_term.specs.Reading.{at_end, split_iri, read_iri, read_blank, read_tagged, read_typed, read_tail, read_literal, read_term, shown};
 
-use crate::class_types::{Irichar, LowerAlphanumeric, LowerLetter, NtLabelFirst, NtPnChars};
-use crate::escape::escape_letter;
+use crate::class_types::{LowerAlphanumeric, LowerLetter, NtLabelFirst, NtPnChars};
 use crate::names::{after_dotted_name, after_language_tag};
+use crate::runs::{after_irichars, after_spellings};
 use crate::term_parts::{Parts, TermKind};
-use crate::text::{after_char, after_run, before, is_at_end, split_char};
+use crate::text::{after_char, before, is_at_end, split_char};
 
 const XSD_STRING: &str = "http://www.w3.org/2001/XMLSchema#string";
 
@@ -122,7 +121,7 @@ fn split_iri(text: &str) -> Option<(&str, &str)>
     ensures chars { option_map (λ p. (chars p.0.now, chars p.1.now)) result ≡ split_iri (chars text.now) }
     ensures utf8 { IfSome result (λ p. IsUtf8 p.0.now × IsUtf8 p.1.now) }
 {
-    let end = after_run(text, Irichar);
+    let end = after_irichars(text);
     let rest = after_char(end, '>')?;
     Some((before(text, end), rest))
 }
@@ -140,46 +139,4 @@ fn parts_at_end<'a>(rest: &str, kind: TermKind, body: &'a str, tail: &'a str) ->
         body: body.as_bytes(),
         tail: tail.as_bytes(),
     })
-}
-
-// The text after the longest run of characters as they are spelled in a literal.
-#[tactic(auto, using(crate::proofs::Spellings::spellings))]
-fn after_spellings(text: &str) -> &str
-    ensures { chars result.now ≡ after_pieces after_spelling (chars text.now) }
-{
-    let mut rest = text;
-    while let Some(after) = after_spelling(rest) {
-        rest = after;
-    }
-    rest
-}
-
-// The text after one character as it is spelled in a literal.
-#[tactic(auto, unfolding(crate::specs::Reading::after_spelling))]
-fn after_spelling(text: &str) -> Option<&str>
-    ensures chars { option_map (λ rest. chars rest.now) result ≡ after_spelling (chars text.now) }
-    ensures utf8 { IfSome result (λ rest. IsUtf8 rest.now) }
-{
-    match split_char(text)? {
-        ('\\', rest) => after_escape(rest),
-        (c, rest) if escape_letter(c).is_none() => Some(rest),
-        _ => None,
-    }
-}
-
-fn after_escape(text: &str) -> Option<&str>
-    ensures chars { option_map (λ rest. chars rest.now) result ≡ after_escape (chars text.now) }
-    ensures utf8 { IfSome result (λ rest. IsUtf8 rest.now) }
-{
-    match split_char(text) {
-        Some((c, rest)) if is_escape_letter(c) => Some(rest),
-        _ => None,
-    }
-}
-
-#[tactic(auto, unfolding(crate::specs::Reading::is_escape_letter))]
-fn is_escape_letter(c: char) -> bool
-    ensures { result ≡ is_escape_letter c }
-{
-    matches!(c, '"' | '\\' | 'n' | 'r' | 't')
 }

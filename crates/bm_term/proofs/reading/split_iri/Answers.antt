@@ -6,4 +6,4 @@ use Rattle.bm_term.proofs.reading.split_iri.Goals as goal
 pub before-requires : goal.before-requires
 before-requires c =
     let (iri, all, split) = after_run-split is_irichar (chars c.args.text.now) in
-    rw c.after_run-end.ensures (iri, split)
+    rw c.after_irichars-end.ensures (iri, split)
