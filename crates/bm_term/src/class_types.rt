@@ -2,22 +2,10 @@
 ghost use Rattle.bm_term.specs.Classes as of;
 
 use crate::classes::{
-    is_alphanumeric, is_irichar, is_letter, is_lower_alphanumeric, is_lower_letter,
-    is_nt_label_first, is_nt_pn_chars, is_pn_chars_base, is_sparql_label_first, is_sparql_pn_chars,
+    is_alphanumeric, is_letter, is_lower_alphanumeric, is_lower_letter, is_nt_label_first,
+    is_nt_pn_chars, is_pn_chars_base, is_sparql_label_first, is_sparql_pn_chars,
 };
 use crate::text::CharClass;
-
-/// See [`is_irichar`].
-#[derive(Clone, Copy)]
-pub struct Irichar;
-
-impl CharClass for Irichar {
-    ghost members = { of.is_irichar };
-
-    fn has(self, c: char) -> bool {
-        is_irichar(c as u32)
-    }
-}
 
 /// See [`is_letter`].
 #[derive(Clone, Copy)]
