@@ -1,6 +1,7 @@
 -- A language tag is read to its longest end.
 use Rattle.std.proofs.Common.{◌≡◌, ℕ, ◌+◌, ◌<◌, ◌≤◌, Bool, true, false, ◌==◌, if◌then◌else◌, IsTrue, Option, Some, None, List, [], ◌∷◌, ◌++◌, length, refl, ap, ◌∙◌, sym, arith, append_assoc, length-append, eqb}
 use Rattle.std.specs.Option.{option_map, option_map_or}
+use Rattle.bm_term.specs.Classes.{is_letter, is_alphanumeric, is_lower_letter, is_lower_alphanumeric, is_digit}
 use Rattle.bm_term.specs.Text.{after_char, after_run, after_some, IsRun}
 use Rattle.bm_term.specs.Repetition.{Star, after_pieces, GoesForward}
 use Rattle.bm_term.specs.Names.{IsSubtag, IsLanguageTag, after_subtag, after_language_tag}
@@ -95,3 +96,22 @@ after_language_tag-sound letter alphanumeric text rest e =
             text_split ∙ ap (λ xs. primary ++ xs) (after_split ∙ ap (λ xs. front ++ xs) end) ∙ sym (append_assoc primary front rest),
           )
     ] refl e
+
+-- the hyphen is no letter and no digit
+pub no_letter : is_letter 45 ≡ false
+unfolding is_letter
+no_letter = refl
+
+pub no_alphanumeric : is_alphanumeric 45 ≡ false
+unfolding is_alphanumeric is_letter is_digit
+no_alphanumeric = refl
+
+pub no_lower_letter : is_lower_letter 45 ≡ false
+unfolding is_lower_letter
+no_lower_letter = refl
+
+pub no_lower_alphanumeric : is_lower_alphanumeric 45 ≡ false
+unfolding is_lower_alphanumeric is_lower_letter is_digit
+no_lower_alphanumeric = refl
+
+pub ruleset hyphens = (no_letter, no_alphanumeric, no_lower_letter, no_lower_alphanumeric)

@@ -10,12 +10,12 @@ use Rattle.std.proofs.lemmas.Slice.Eq.{bytes_eq-Decides}
 use Rattle.std.proofs.lemmas.List.{nil_from_length}
 use Rattle.bm_term.specs.declared.term_parts.TermKind.{TermKind}
 use Rattle.bm_term.specs.declared.term_parts.TermKind.TheVariants.{Iri, Blank, Plain, Tagged, Typed}
-use Rattle.bm_term.specs.Classes.{is_digit, is_scalar, is_irichar, is_lower_letter, is_lower_alphanumeric, is_nt_label_first, is_nt_pn_chars}
+use Rattle.bm_term.specs.Classes.{is_scalar, is_irichar, is_lower_letter, is_lower_alphanumeric, is_nt_label_first, is_nt_pn_chars}
 use Rattle.bm_term.specs.Text.{after_char, after_run, before}
 use Rattle.bm_term.specs.Repetition.{after_pieces}
 use Rattle.bm_term.specs.Names.{IsDottedName, IsLanguageTag, after_dotted_name, after_language_tag}
 use Rattle.bm_term.proofs.DottedNames.{after_dotted_name-sound, after_dotted_name-reaches}
-use Rattle.bm_term.proofs.LanguageTags.{after_language_tag-sound, after_language_tag-reaches}
+use Rattle.bm_term.proofs.LanguageTags.{no_lower_letter, no_lower_alphanumeric, after_language_tag-sound, after_language_tag-reaches}
 use Rattle.bm_term.proofs.Spellings.{spellings-split, after_spellings-escaped, after_spellings-none, all_scalars-escaped}
 use Rattle.bm_term.proofs.Scalars.{scalars_front}
 use lib.Utf8.{scalar}
@@ -115,14 +115,6 @@ read_blank-again : (label : List ℕ) → IsDottedName is_nt_label_first is_nt_p
 unfolding read_blank
 read_blank-again label is =
     rw (whole (IsDottedName is_nt_label_first is_nt_pn_chars) (after_dotted_name is_nt_label_first is_nt_pn_chars) (after_dotted_name-reaches is_nt_label_first is_nt_pn_chars) label is) refl
-
-no_lower_letter : is_lower_letter 45 ≡ false
-unfolding is_lower_letter
-no_lower_letter = refl
-
-no_lower_alphanumeric : is_lower_alphanumeric 45 ≡ false
-unfolding is_lower_alphanumeric is_lower_letter is_digit
-no_lower_alphanumeric = refl
 
 -- what a reading behind a lexical form answers is a literal of that form
 record TellsLiteral (lexical text : List ℕ) (read : Read) : Type 0 where

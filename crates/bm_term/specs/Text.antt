@@ -1,5 +1,5 @@
 -- Walking a text from its front, as its list of characters.
-use Rattle.std.specs.Prelude.{◌≡◌, ℕ, ◌-◌, ◌<◌, Bool, ◌==◌, if◌then◌else◌, IsTrue, Option, Some, None, List, [], ◌∷◌, ◌++◌, length, take}
+use Rattle.std.specs.Prelude.{◌≡◌, ◌≢◌, ℕ, ◌-◌, ◌<◌, Bool, ◌==◌, if◌then◌else◌, IsTrue, Option, Some, None, List, [], ◌∷◌, ◌++◌, length, take}
 use Rattle.std.specs.List.{list_all}
 
 -- the first character and what follows it
@@ -34,7 +34,17 @@ HasRest text rest = (front : List ℕ) × (text ≡ front ++ rest)
 abbrev pub before : List ℕ → List ℕ → List ℕ
 before text rest = take (length text - length rest) text
 
--- of all texts of a rule T, this is the longest that the whole begins with; the rest follows it
-pub record IsLongest (T : List ℕ → Type 0) (text rest : List ℕ) : Type 0 where
-  pub follows : T text
-  pub longest : (more after : List ℕ) → rest ≡ more ++ after → T (text ++ more) → more ≡ []
+-- of all texts of a rule that the whole begins with, this is the longest; the rest follows it
+pub record IsLongest (Rule : List ℕ → Type 0) (text rest : List ℕ) : Type 0 where
+  pub is : Rule text
+  pub longest : (more after : List ℕ) → rest ≡ more ++ after → Rule (text ++ more) → more ≡ []
+
+-- the rest follows the longest text of the rule that the whole begins with
+pub record FollowsLongest (Rule : List ℕ → Type 0) (whole rest : List ℕ) : Type 0 where
+  pub text : List ℕ
+  pub first : IsLongest Rule text rest
+  pub split : whole ≡ text ++ rest
+
+-- the whole begins with no text of the rule
+abbrev pub BeginsWithNone : (List ℕ → Type 0) → List ℕ → Type 0
+BeginsWithNone Rule whole = (text rest : List ℕ) → Rule text → whole ≢ text ++ rest

@@ -86,7 +86,7 @@ fn read_tail<'a>(lexical: &'a str, text: &'a str) -> Option<Parts<'a>>
     }
 }
 
-#[tactic(auto, unfolding(crate::specs::Reading::read_tagged))]
+#[tactic(auto, using(crate::proofs::LanguageTags::hyphens), unfolding(crate::specs::Reading::read_tagged))]
 fn read_tagged<'a>(lexical: &'a str, tag: &'a str) -> Option<Parts<'a>>
     ensures parts { option_map shown result ≡ read_tagged (chars lexical.now) (chars tag.now) }
     ensures utf8 { IfSome result (λ p. IsUtf8 p.body.now × IsUtf8 p.tail.now) }

@@ -314,6 +314,7 @@ fn lexical_forms_there_and_back(rt: HostRuntime) -> Result<(), Fail> {
 
 // A name and a tag end where the longest does.
 #[test]
+#[tactic(auto, using(crate::proofs::LanguageTags::hyphens))]
 fn names_end_where_the_longest_does(rt: HostRuntime) {
     for (text, after_label, after_prefix, after_tag) in [
         ("", None, None, None),
