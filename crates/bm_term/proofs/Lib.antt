@@ -15,3 +15,4 @@ pub mod Taking
 pub mod Examples
 pub mod PlainIris
 pub mod ByteRuns
+pub mod LowerTags
