@@ -21,13 +21,13 @@ pub struct Term {
 
 impl Model for Term {
     ghost use Rattle.std.specs.Prelude.{List, ℕ};
-    ghost use Rattle.bm_term.specs.Iri.{IsIriText};
+    ghost use Rattle.bm_term.specs.Canonical.{IsCanonical};
 
     ghost Value = { List ℕ };
 
     ghost view = { λ t. t.text.items };
 
-    ghost invariant = { λ t. ∥ IsIriText t.text.items ∥₁ };
+    ghost invariant = { λ t. ∥ IsCanonical t.text.items ∥₁ };
 }
 
 impl Term {
@@ -44,7 +44,7 @@ impl Term {
     pub fn as_ref(&self) -> TermRef<'_>
         ensures { text_of result ≡ self.now }
     {
-        TermRef::lent(&self.text)
+        TermRef::from_canonical(&self.text)
     }
 }
 

@@ -1,33 +1,34 @@
-ghost use Rattle.bm_term.specs.Iri.{IsIriText};
+ghost use Rattle.bm_term.specs.Canonical.{IsCanonical};
 
-use crate::is_iri;
+use crate::reading::parts;
+use crate::term_parts::Parts;
 
 /// A borrowed term: a canonical text. It is seen as that text.
 #[derive(Clone, Copy)]
 pub struct TermRef<'a> {
     text: &'a [u8],
-    pub ghost canonical: { ∥ IsIriText text.now ∥₁ },
+    pub ghost canonical: { ∥ IsCanonical text.now ∥₁ },
 }
 
 impl<'a> TermRef<'a> {
     ghost use Rattle.std.specs.Prelude.{◌≡◌, ◌↔◌, IsSome, IfSome};
     ghost use Rattle.bm_term.specs.TermRef.{text_of};
+    ghost use Rattle.bm_term.specs.Parts.{ArePartsOf};
 
     /// The term with this text. `None` exactly where the bytes are no canonical text.
     pub fn new(bytes: &'a [u8]) -> Option<TermRef<'a>>
-        ensures canonical { IsSome result ↔ IsIriText bytes.now }
+        ensures canonical { IsSome result ↔ IsCanonical bytes.now }
         ensures text { IfSome result (λ term. text_of term ≡ bytes.now) }
     {
-        if is_iri(bytes) {
-            Some(TermRef { text: bytes })
-        } else {
-            None
+        match parts(bytes) {
+            Some(_) => Some(TermRef { text: bytes }),
+            None => None,
         }
     }
 
-    // The term with a text that is known to be canonical.
-    pub(crate) fn lent(text: &'a [u8]) -> TermRef<'a>
-        requires { ∥ IsIriText text.now ∥₁ }
+    /// The term with a text that is known to be canonical. It is not looked into.
+    pub fn from_canonical(text: &'a [u8]) -> TermRef<'a>
+        requires { ∥ IsCanonical text.now ∥₁ }
         ensures { text_of result ≡ text.now }
     {
         TermRef { text }
@@ -35,8 +36,19 @@ impl<'a> TermRef<'a> {
 
     /// The text.
     pub fn bytes(self) -> &'a [u8]
-        ensures { result.now ≡ text_of self.entry }
+        ensures text { result.now ≡ text_of self.entry }
+        ensures canonical { IsCanonical result.now }
     {
         self.text
+    }
+
+    /// The parts of the text.
+    pub fn parts(self) -> Parts<'a>
+        ensures { ArePartsOf (text_of self.entry) result }
+    {
+        match parts(self.text) {
+            Some(found) => found,
+            None => unreachable!(),
+        }
     }
 }

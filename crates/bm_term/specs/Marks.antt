@@ -1,0 +1,42 @@
+-- The marks of the grammars, by name.
+use Rattle.std.specs.Prelude.{ℕ}
+
+abbrev pub tab : ℕ
+tab = 0x9
+
+abbrev pub line_feed : ℕ
+line_feed = 0xA
+
+abbrev pub carriage_return : ℕ
+carriage_return = 0xD
+
+-- "
+abbrev pub quotation_mark : ℕ
+quotation_mark = 0x22
+
+abbrev pub hyphen : ℕ
+hyphen = 0x2D
+
+abbrev pub full_stop : ℕ
+full_stop = 0x2E
+
+abbrev pub colon : ℕ
+colon = 0x3A
+
+abbrev pub less_than : ℕ
+less_than = 0x3C
+
+abbrev pub greater_than : ℕ
+greater_than = 0x3E
+
+abbrev pub at_sign : ℕ
+at_sign = 0x40
+
+abbrev pub backslash : ℕ
+backslash = 0x5C
+
+abbrev pub circumflex : ℕ
+circumflex = 0x5E
+
+abbrev pub low_line : ℕ
+low_line = 0x5F
