@@ -135,9 +135,10 @@ module _ {X : Type 0} (cmp : X → X → Ordering) (o : IsTotalOrder cmp) (exact
 
   Rises-from_sorted : (xs : List X) → IsSorted cmp xs → Rises xs
   Rises-from_sorted [] sorted = tt
-  Rises-from_sorted (x ∷ xs) sorted =
-      (NoneLess-from_each x xs (λ j d below. sorted_far lt order (x ∷ xs) sorted 0 (suc j) d (omega arith) (omega arith)),
-       Rises-from_sorted xs (λ k d low high. let h = sorted (suc k) d (omega arith) (omega arith) in rw add-one (rw add-one at h)))
+  Rises-from_sorted (x ∷ xs) sorted = (
+    NoneLess-from_each x xs (λ j d below. sorted_far lt order (x ∷ xs) sorted 0 (suc j) d (omega arith) (omega arith)),
+    Rises-from_sorted xs (λ k d low high. let h = sorted (suc k) d (omega arith) (omega arith) in rw add-one (rw add-one at h)),
+  )
 
   -- a sorted permutation is the list in order
   pub in_order-is : (xs ys : List X) → IsPermutation xs ys → IsSorted cmp ys → ys ≡ in_order cmp xs

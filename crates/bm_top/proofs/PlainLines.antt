@@ -1,9 +1,7 @@
 -- What a plain line spells, part by part.
-use Rattle.std.proofs.Common.{◌≡◌, ℕ, Bool, true, false, ◌==◌, ◌↔◌, IsSome, List, [], ◌∷◌, Option, Some, None, MatchOption, IfSome, refl, sym}
+use Rattle.std.proofs.Common.{◌≡◌, ℕ, Bool, true, false, ◌==◌, ◌↔◌, IsTrue, List, [], ◌∷◌, Option, Some, None, refl, sym}
 use Rattle.std.specs.Cmp.Lexicographic.{pointwise}
 use Rattle.bm_term.specs.Iri.{reads_iri, IsIriText}
-use Rattle.bm_term.specs.TermRef.{text_of}
-use Rattle.bm_term.specs.declared.term_ref.TermRef.{TermRef}
 use Rattle.bm_term.proofs.IriTexts.{reads_iri-exact}
 use Rattle.bm_top.specs.Pieces.{parts_at}
 use Rattle.bm_top.specs.PlainData.{triple_texts}
@@ -26,7 +24,7 @@ no_iri : (b : Bool) (P : Type 0) → (b ≡ true → P) → (P → ⊥) → b �
 no_iri true P holds never = absurd (never (holds refl))
 no_iri false P holds never = refl
 
--- a term is made of the text exactly where it reads as an IRI
-pub reads_iri-known : (text : List ℕ) (made : Option TermRef) → (IsSome made ↔ IsIriText text) → IfSome made (λ term. text_of term ≡ text) → MatchOption made (reads_iri text ≡ false) (λ term. (reads_iri text ≡ true) × (text_of term ≡ text))
-reads_iri-known text None h is = no_iri (reads_iri text) (IsIriText text) (reads_iri-exact text).0 (λ t. let never = h.1 t in cc)
-reads_iri-known text (Some term) h is = ((reads_iri-exact text).1 (h.0 refl), is)
+-- a text reads as an IRI exactly where the test says so
+pub reads_iri-tested : (text : List ℕ) (b : Bool) → (IsTrue b ↔ IsIriText text) → reads_iri text ≡ b
+reads_iri-tested text true h = (reads_iri-exact text).1 (h.0 refl)
+reads_iri-tested text false h = no_iri (reads_iri text) (IsIriText text) (reads_iri-exact text).0 (λ t. let never = h.1 t in cc)

@@ -7,7 +7,7 @@ ghost use Rattle.bm_top.specs.PlainData.{triple_texts, plain_line};
 ghost use Rattle.bm_top.specs.Reading.{IsIriOf, IsLineOf, AddsLine, IsDataOf};
 
 use crate::pieces::split_at_byte;
-use bm_term::{Term, TermRef, Triple};
+use bm_term::{Term, TermRef, Triple, is_iri};
 use std::alloc::{AllocError, AllocFailed, Global};
 
 pub const LINE_FEED: u8 = b'\n';
@@ -123,5 +123,9 @@ fn read_iri(alloc: Global, text: &[u8]) -> Result<Term, LineFault>
 pub(crate) fn plain_iri(text: &[u8]) -> Option<TermRef<'_>>
     ensures { MatchOption result (reads_iri text.now ≡ false) (λ iri. (reads_iri text.now ≡ true) × (text_of iri ≡ text.now)) }
 {
-    TermRef::new(text)
+    if is_iri(text) {
+        Some(TermRef::from_canonical(text))
+    } else {
+        None
+    }
 }
