@@ -1,28 +1,22 @@
 -- A text that is said by several calls, each of which takes some of what is left.
-use Rattle.std.proofs.Common.{◌≡◌, ℕ, ◌+◌, ◌==◌, true, List, [], ◌++◌, length, take, drop, Option, refl, sym, ◌∙◌, ap, append_assoc, take-append-drop}
+use Rattle.std.proofs.Common.{◌≡◌, ℕ, ◌+◌, ◌==◌, true, List, ◌++◌, length, take, drop, Option, sym, ◌∙◌, ap, append_assoc, take-append-drop}
 use Rattle.std.proofs.lemmas.List.{append-nil, nil_from_length}
 use Rattle.std.proofs.lemmas.Bool.{eqb-true}
 use Rattle.std.proofs.Math.Seq.{take-append-add}
 use Rattle.bm_world.specs.Meanings.{Meanings, with_printed, with_complained}
 use Rattle.bm_world.specs.World.{Step, AppendsSome}
-use Rattle.bm_world.proofs.Steps.{Step-stay, Step-then, Step-weaken}
+use Rattle.bm_world.proofs.Steps.{Step-then, Step-weaken}
 
--- a change that appends nothing at no bytes, and at two texts one after the other
-pub record IsAppending (change : Meanings → List ℕ → Meanings) : Type 0 where
-  pub none : (m : Meanings) → change m [] ≡ m
-  pub more : (m : Meanings) (a b : List ℕ) → change (change m a) b ≡ change m (a ++ b)
+-- two texts appended after one another are their one text appended
+abbrev pub IsAppending : (Meanings → List ℕ → Meanings) → Type 0
+IsAppending change = (m : Meanings) (a b : List ℕ) → change (change m a) b ≡ change m (a ++ b)
 
+-- printing and complaining append
 pub printed_appends : IsAppending with_printed
-printed_appends = record {
-  none = λ m. ap (λ (text : List ℕ). record m { printed = text }) (append-nil m.printed);
-  more = λ m a b. ap (λ (text : List ℕ). record m { printed = text }) (append_assoc m.printed a b);
-}
+printed_appends m a b = ap (λ (text : List ℕ). record m { printed = text }) (append_assoc m.printed a b)
 
 pub complained_appends : IsAppending with_complained
-complained_appends = record {
-  none = λ m. ap (λ (text : List ℕ). record m { complained = text }) (append-nil m.complained);
-  more = λ m a b. ap (λ (text : List ℕ). record m { complained = text }) (append_assoc m.complained a b);
-}
+complained_appends m a b = ap (λ (text : List ℕ). record m { complained = text }) (append_assoc m.complained a b)
 
 -- what comes before the rest is appended
 pub record AppendsUpTo (change : Meanings → List ℕ → Meanings) (all rest : List ℕ) (m n : Meanings) : Type 0 where
@@ -30,17 +24,13 @@ pub record AppendsUpTo (change : Meanings → List ℕ → Meanings) (all rest :
   pub whole : front ++ rest ≡ all
   pub moved : n ≡ change m front
 
-module _ {change : Meanings → List ℕ → Meanings} (appends : IsAppending change) where
-  -- before the first call
-  pub appends_none : {a : Option Meanings} (all : List ℕ) → Step a a (AppendsUpTo change all all)
-  appends_none all = Step-stay (λ m. record { front = []; whole = refl; moved = sym (appends.none m) })
-
+module _ (change : Meanings → List ℕ → Meanings) (appends : IsAppending change) where
   -- one call more
   pub appends_more : {a b c : Option Meanings} {all rest after : List ℕ} (count : ℕ) → after ≡ drop count rest → Step a b (AppendsUpTo change all rest) → Step b c (λ m n. n ≡ change m (take count rest)) → Step a c (AppendsUpTo change all after)
   appends_more {all = all} {rest = rest} count is_after before call = Step-then before call (λ m k n so_far moved. record {
     front = so_far.front ++ take count rest;
     whole = append_assoc so_far.front _ _ ∙ ap (λ (text : List ℕ). so_far.front ++ (take count rest ++ text)) is_after ∙ ap (λ (text : List ℕ). so_far.front ++ text) (take-append-drop count rest) ∙ so_far.whole;
-    moved = moved ∙ ap (λ k. change k (take count rest)) so_far.moved ∙ appends.more m so_far.front (take count rest);
+    moved = moved ∙ ap (λ k. change k (take count rest)) so_far.moved ∙ appends m so_far.front (take count rest);
   })
 
   -- a call that fails
@@ -48,7 +38,7 @@ module _ {change : Meanings → List ℕ → Meanings} (appends : IsAppending ch
   appends_some {rest = rest} before call = Step-then before call (λ m k n so_far moved. (
     length so_far.front + moved.0,
     moved.1 ∙ ap (λ k. change k (take moved.0 rest)) so_far.moved
-        ∙ appends.more m so_far.front (take moved.0 rest)
+        ∙ appends m so_far.front (take moved.0 rest)
         ∙ ap (λ text. change m text) (sym (take-append-add so_far.front rest moved.0))
         ∙ ap (λ text. change m (take (length so_far.front + moved.0) text)) so_far.whole,
   ))

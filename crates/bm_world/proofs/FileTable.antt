@@ -23,10 +23,12 @@ Table = BTreeMap (String Global) (Vec ℕ Global)
 abbrev pub bytes_of : Option (Vec ℕ Global) → Option (List ℕ)
 bytes_of file = option_map (λ (v : Vec ℕ Global). v.items) file
 
+-- the bytes of a choice are the choice of the bytes
 looked_up : (b : Bool) (v : Vec ℕ Global) (file : Option (Vec ℕ Global)) → bytes_of (cond b (Some v) file) ≡ cond b (Some v.items) (bytes_of file)
 looked_up true v file = refl
 looked_up false v file = refl
 
+-- the first entry at a name is found alike in both lists
 found : (name : List ℕ) (entries : List (String Global × Vec ℕ Global)) → find (slice_cmp nat_cmp) name (map (λ entry. (string_bytes entry.0, entry.1.items)) entries) ≡ bytes_of (lookup (λ k. is_eq (slice_cmp nat_cmp name (string_bytes k))) entries)
 found name [] = refl
 found name (e ∷ entries) = ap (cond (eq_by_cmp (slice_cmp nat_cmp) name (string_bytes e.0)) (Some e.1.items)) (found name entries) ∙ sym (looked_up (is_eq (slice_cmp nat_cmp name (string_bytes e.0))) e.1 _)
@@ -39,6 +41,7 @@ get-files_of table name = get-from_entries nat_list_cmp_total _ name ∙ found n
 pub bytes_found : (files : Files) (table : Table) (name : List ℕ) (file : Option (Vec ℕ Global)) → files_of table.entries ≡ files → file ≡ get_by_text table name → bytes_of file ≡ get files name
 bytes_found files table name file is found = ap bytes_of found ∙ sym (get-files_of table name) ∙ ap (λ files. get files name) is
 
+-- the map with a value at one name, file by file
 files_of-updates : (name : List ℕ) (old new : Table) (v : Vec ℕ Global) → UpdatesBy string_cmp (λ k. slice_cmp nat_cmp name (string_bytes k)) old new (Some v) → files_of new.entries ≡ insert (files_of old.entries) name v.items
 files_of-updates name old new v updates = same_map nat_list_cmp_total (slice_cmp-IsAntisymmetric nat_cmp-IsAntisymmetric) _ _ (λ q.
     get-files_of new q ∙ ap bytes_of (btree_map_updates_text name old new (Some v) updates q) ∙ looked_up (bytes_eq name q) v _
@@ -75,10 +78,12 @@ files_kept files name bytes table is none = sym (append_to_none files name bytes
 
 -- a file that is found is written through
 module _ (files : Files) (name bytes : List ℕ) (old new : Table) (was now : Vec ℕ Global) (is : files_of old.entries ≡ files) (found : Some was ≡ get_by_text old name) (updates : UpdatesBy string_cmp (λ k. slice_cmp nat_cmp name (string_bytes k)) old new (Some now)) where
+  -- where there was room, its bytes are longer
   pub files_grown : (grown : Result (Unit {0}) AllocError) → now.items ≡ (if is_ok grown then was.items ++ bytes else was.items) → OnOk grown (files_of new.entries ≡ append_to files name bytes)
   files_grown (Ok _) items = files_put files name (was.items ++ bytes) old new name now is updates refl items ∙ sym (append_to_some files name bytes was.items (sym (bytes_found files old name (Some was) is found)))
   files_grown (Err _) items = tt
 
+  -- and else they are as they were
   pub files_not_grown : (grown : Result (Unit {0}) AllocError) → now.items ≡ (if is_ok grown then was.items ++ bytes else was.items) → OnErr grown (files_of new.entries ≡ files)
   files_not_grown (Ok _) items = tt
   files_not_grown (Err _) items = files_put files name was.items old new name now is updates refl items ∙ insert_same files name was.items (sym (bytes_found files old name (Some was) is found))

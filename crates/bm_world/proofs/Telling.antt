@@ -17,15 +17,17 @@ no_failure true failure answer before now ends = absurd ends
 no_failure false true answer before now ends = absurd ends
 no_failure false false answer before now ends = refl
 
+-- what is not none is some
 some_when : {T : Type 0} (o : Option T) → is_none o ≡ false → IsSome o
 some_when None there = cc
 some_when (Some x) there = refl
 
+-- no bytes taken leave all
 drop_none : (o : Option (List ℕ)) → option_map (drop 0) o ≡ o
 drop_none None = refl
 drop_none (Some xs) = refl
 
--- what a read into a buffer did
+-- a read that moved the first bytes of what was left into the front of a buffer
 module _ (old new : List ℕ) (count : ℕ) (left : List ℕ) (counts : count ≡ min (length old) (length left)) (came : new ≡ take count left ++ drop count old) where
   same_length : length new ≡ length old
   same_length = ap length came ∙ length-append (take count left) (drop count old) ∙ omega (arith, length-take count left, length-drop count old)
@@ -41,12 +43,14 @@ module _ (old new : List ℕ) (count : ℕ) (left : List ℕ) (counts : count �
     at_end = λ none room. drop_all count left (omega (arith, same_length));
   }
 
+-- the same, where what was left is known to be there
 takes_some : (old new : List ℕ) (count : ℕ) (m n : Meanings) (rest : Option (List ℕ)) → m.rest ≡ rest → IsSome rest
     → count ≡ min (length old) (length (unwrap_or rest [])) → new ≡ take count (unwrap_or rest []) ++ drop count old
     → n ≡ record m { rest = option_map (drop count) rest } → Takes new count m n
 takes_some old new count m n None is open_file counts came moved = let no : false ≡ true = open_file in cc
 takes_some old new count m n (Some left) is open_file counts came moved = takes old new count left counts came m n is moved
 
+-- what a read did is what a world that tells may do
 pub reads_told : (due : Bool) (old new : List ℕ) (result : Result ℕ Failed) (before now : ℕ) (m n : Meanings)
     → Ends due (is_none m.rest) result before now
     → IfOk result (λ count. count ≡ min (length old) (length (left_to_read m)))
@@ -58,18 +62,21 @@ reads_told due old new (Ok count) before now m n ends counts came moved =
 reads_told due old new (Err _) before now m n ends counts came moved =
     Step-told (moved ∙ ap (λ (rest : Option (List ℕ)). record m { rest = rest }) (drop_none m.rest))
 
+-- no bytes at the end of a file leave all files
 append_nothing : (files : Files) (name : List ℕ) (file : Option (List ℕ)) → get files name ≡ file → option_map_or (λ (old : List ℕ). insert files name (old ++ [])) file files ≡ files
 append_nothing files name None is = refl
 append_nothing files name (Some old) is = ap (insert files name) (append-nil old) ∙ insert_same files name old is
 
+-- no bytes at the end of the file that is being made leave all files
 write_nothing : (files : Files) (made : Option (List ℕ)) → option_map_or (λ (name : List ℕ). append_to files name []) made files ≡ files
 write_nothing files None = refl
 write_nothing files (Some name) = append_nothing files name (get files name) refl
 
--- nothing is written by no bytes
-pub with_written_nothing : (m : Meanings) → with_written m [] ≡ m
+-- no bytes written leave all
+with_written_nothing : (m : Meanings) → with_written m [] ≡ m
 with_written_nothing m = ap (λ (files : Files). record m { files = files }) (write_nothing m.files m.made)
 
+-- what a write did is what a world that tells may do
 pub writes_told : (due : Bool) (piece : List ℕ) (result : Result ℕ Failed) (before now : ℕ) (m n : Meanings)
     → Ends due (is_none m.made) result before now
     → IfOk result (λ count. count ≡ length piece)

@@ -9,6 +9,7 @@ use Rattle.bm_world.specs.World.{Step, Rose, IsMissing, Takes, NothingIsOpen}
 use Rattle.bm_world.specs.Reading.{IsReadingOf, ReadsAll}
 use Rattle.bm_world.proofs.Steps.{Step-then, Step-weaken}
 
+-- this is left to read
 abbrev with_rest : Option (List ℕ) → Meanings → Meanings
 with_rest rest m = record m { rest = rest }
 
@@ -18,6 +19,7 @@ pub record ReadsUpTo (name came : List ℕ) (m n : Meanings) : Type 0 where
   pub whole : file_at m name ≡ Some (came ++ left)
   pub moved : n ≡ record m { rest = Some left }
 
+-- `Some` of one list is `Some` of no other
 some_once : {a b : List ℕ} → Some a ≡ Some b → a ≡ b
 some_once is = cc
 
@@ -26,12 +28,15 @@ pub record ChangesRest (m n : Meanings) : Type 0 where
   pub rest : Option (List ℕ)
   pub moved : n ≡ record m { rest = rest }
 
+-- and then it is what is left to read afterwards
 only_rest : (m n : Meanings) → ChangesRest m n → n ≡ record m { rest = n.rest }
 only_rest m n changes = changes.moved ∙ ap (λ rest. with_rest rest m) (sym (ap (λ (n : Meanings). n.rest) changes.moved))
 
+-- a file that is being read changes nothing else
 rest_only : {name came : List ℕ} {m n : Meanings} → ReadsUpTo name came m n → ChangesRest m n
 rest_only so_far = record { rest = Some so_far.left; moved = so_far.moved }
 
+-- a file that was there is left to read whole
 opened : (name : List ℕ) (m n : Meanings) (file : Option (List ℕ)) → file_at m name ≡ file → IsSome file → n ≡ record m { rest = file } → ReadsUpTo name [] m n
 opened name m n None is none moved = let no : false ≡ true = none in cc
 opened name m n (Some bytes) is some moved = record { left = bytes; whole = is; moved = moved }
@@ -41,6 +46,7 @@ pub reads_none : {a b : Option Meanings} {name : List ℕ} (came : List ℕ) →
 reads_none {name = name} came nothing call = Step-weaken call (λ m n moved.
     subst (λ came. ReadsUpTo name came m n) (sym nothing) (opened name m n _ refl moved.0 moved.1))
 
+-- one read more, between told meanings
 takes : {name came buffer : List ℕ} {count : ℕ} (now : List ℕ) → now ≡ came ++ take count buffer → (m k n : Meanings) → ReadsUpTo name came m k → Takes buffer count k n → ReadsUpTo name now m n
 takes {came = came} {buffer} {count} now is_now m k n so_far moved =
     let left_is : so_far.left ≡ take count buffer ++ moved.left = some_once (sym (ap (λ (k : Meanings). k.rest) so_far.moved) ∙ moved.came) in record {
@@ -78,13 +84,15 @@ reads_too_long {came = came} {limit} more before = Step-weaken before (λ m n so
 pub reads_no_more : {a b : Option Meanings} {name : List ℕ} {limit : ℕ} (end : ReadEnd) → ((file : Option (List ℕ)) → IsReadingOf file limit (Err end)) → Step a b ChangesRest → Step a b (ReadsAll name limit (Err end))
 reads_no_more end any before = Step-weaken before (λ m n changes. record { answer = any _; only_rest = only_rest m n changes })
 
--- a read that fails leaves all as it was
+-- with a read that fails behind them, reads change what is left to read alone
 pub rest_changed : {a b c : Option Meanings} {name came : List ℕ} → Step a b (ReadsUpTo name came) → Step b c (λ m n. n ≡ m) → Step a c ChangesRest
 rest_changed before call = Step-then before call (λ m k n so_far same. record { rest = Some so_far.left; moved = same ∙ so_far.moved })
 
+-- an open that fails changes it alone
 pub rest_changed_by_open : {a b : Option Meanings} → Step a b (λ m n. n ≡ record m { rest = None }) → Step a b ChangesRest
 rest_changed_by_open call = Step-weaken call (λ m n moved. record { rest = None; moved = moved })
 
+-- reads that succeed change what is left to read alone
 pub rest_changed_by_reads : {a b : Option Meanings} {name came : List ℕ} → Step a b (ReadsUpTo name came) → Step a b ChangesRest
 rest_changed_by_reads before = Step-weaken before (λ m n so_far. rest_only so_far)
 

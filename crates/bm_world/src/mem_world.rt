@@ -1,4 +1,4 @@
-// A world in memory, which tells all its meanings.
+// A world in memory.
 ghost use Rattle.std.specs.Prelude.{◌≡◌, ◌++◌, [], ◌∷◌, None, Some, IfOk, OnOk, OnErr, IsSome, IsOk, string_bytes, min, length, take, drop, is_some, is_none, is_ok, false, if◌then◌else◌};
 ghost use Rattle.std.specs.Option.{option_copied, option_map};
 ghost use Rattle.std.specs.Result.{result_unwrap_or};
@@ -14,7 +14,9 @@ use crate::{Failed, World, WorldCall};
 use std::alloc::{AllocError, Global};
 use std::marker::Model;
 
-/// A world in memory.
+/// A world in memory, which tells all its meanings. A call answers `Failed` for three causes alone:
+/// it is scheduled to fail, its case is a failure, or it wants memory for a growth of its own. The
+/// first and the last raise its count.
 #[derive(Drop)]
 pub struct MemWorld {
     alloc: Global,

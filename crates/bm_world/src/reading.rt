@@ -10,7 +10,7 @@ use std::alloc::{AllocError, Global};
 /// Why a file was not read to its end.
 #[derive(Clone, Copy, Debug, PartialEq, Eq)]
 pub enum ReadEnd {
-    /// A call of the world failed.
+    /// A call of the world failed, as it does where the file is missing.
     Fault,
     /// The file has more bytes than the limit.
     TooLong,
