@@ -18,12 +18,14 @@ HasVariable-cases : (n v : ℕ) → HasVariable n v → ((v ≡ 0) × (n % 2 ≡
 HasVariable-cases n zero h = inl (refl, sym (bit_at_lowest n) ∙ h)
 HasVariable-cases n (suc v) h = inr (v, sym (bit_at-suc n v) ∙ h, refl)
 
+-- the lowest bit, as a set
 HasSize-lowest : (b : ℕ) → b < 2 → HasSize (λ (v : ℕ). (v ≡ 0) × (b ≡ 1)) b
 HasSize-lowest zero h = HasSize-none (λ (v : ℕ). (v ≡ 0) × (zero ≡ 1)) (λ v w. omega arith)
 HasSize-lowest (suc zero) h =
     HasSize-suc (λ (v : ℕ). (v ≡ 0) × (suc zero ≡ 1)) 0 0 (refl, refl) (HasSize-none _ (λ v w. w.1 w.0.0))
 HasSize-lowest (suc (suc b)) h = absurd (omega arith)
 
+-- the bits of a number, from the lowest on
 HasSize-ones_to : (d n : ℕ) → n ≤ d → HasSize (HasVariable n) (ones n)
 unfolding ones
 HasSize-ones_to zero n h =

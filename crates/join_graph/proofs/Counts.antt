@@ -7,6 +7,7 @@ use Rattle.join_graph.specs.Core.{neighbours_in}
 use Rattle.join_graph.proofs.Sizes.{HasSize-same, HasSize-both, HasSize-image, HasSize-below}
 use Rattle.join_graph.proofs.Members.{PatternHas-place}
 
+-- patterns and variables are told apart by their numbers
 Pattern-apart : (p q : ℕ) → Pattern p ≡ Pattern q → p ≡ q
 Pattern-apart p q e = cc
 

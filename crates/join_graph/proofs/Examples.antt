@@ -7,7 +7,8 @@ use Rattle.join_graph.specs.Sets.{HasTwo, HasSize, Meets}
 use Rattle.join_graph.specs.Members.{Member, HasVariable, PatternHas, OccursIn, IsNeighbour}
 use Rattle.join_graph.specs.Core.{neighbours_in, passing, core_of, IsForest}
 use Rattle.join_graph.specs.Removal.{IsLeft, IsNext, IsRemovalOrder}
-use Rattle.join_graph.specs.Chains.{IsJoined, here, next, IsConnected, spread_from}
+use Rattle.join_graph.specs.Chains.{IsJoined, here, next, IsConnected}
+use Rattle.join_graph.specs.Reach.{spread_from}
 use Rattle.join_graph.specs.Nodes.{node_of}
 use Rattle.join_graph.proofs.Bits.{HasVariable-zero, HasVariable-and}
 use Rattle.join_graph.proofs.Joins.{joined_to-closed, IsConnected-from_meets}

@@ -4,14 +4,17 @@ use Rattle.std.proofs.lemmas.Bool.{cases_eq}
 use Rattle.join_graph.specs.declared.steps.Step.TheVariants.{Pattern, Variable}
 use Rattle.join_graph.specs.Sets.{Meets}
 use Rattle.join_graph.specs.Members.{Member, HasVariable, PatternHas, IsNeighbour}
-use Rattle.join_graph.specs.Chains.{IsJoined, here, next, IsConnected, EachMeets, joined_to, spread_from}
+use Rattle.join_graph.specs.Chains.{IsJoined, here, next, IsConnected}
+use Rattle.join_graph.specs.Reach.{EachMeets, joined_to, spread_from}
 use Rattle.join_graph.proofs.Bits.{HasVariable-zero, HasVariable-or}
 use Rattle.join_graph.proofs.Members.{IsNeighbour-sym, PatternHas-place}
 
+-- two chains, one after the other
 IsJoined-trans : {sets : List ℕ} {m n end : Member} → IsJoined sets m n → IsJoined sets n end → IsJoined sets m end
 IsJoined-trans here chain = chain
 IsJoined-trans (next near rest) chain = next near (IsJoined-trans rest chain)
 
+-- a chain backwards
 IsJoined-sym : {sets : List ℕ} {m n : Member} → IsJoined sets m n → IsJoined sets n m
 IsJoined-sym here = here
 IsJoined-sym {sets} (next {m} {n} near rest) = IsJoined-trans (IsJoined-sym rest) (next (IsNeighbour-sym sets m n near) here)
@@ -30,6 +33,7 @@ abbrev IsInside : List ℕ → (ℕ → Type 0) → Member → Type 0
 IsInside sets set (Pattern p) = (v : ℕ) → PatternHas sets p v → set v
 IsInside sets set (Variable v) = set v
 
+-- a neighbour of what is inside is inside
 IsInside-neighbour : (sets : List ℕ) (set : ℕ → Type 0) (m n : Member) → IsClosed sets set → IsNeighbour sets m n → IsInside sets set m → IsInside sets set n
 IsInside-neighbour sets set (Pattern p) (Pattern q) closed near inside = absurd near
 IsInside-neighbour sets set (Pattern p) (Variable v) closed near inside = inside v near
@@ -80,6 +84,7 @@ IsConnected-from_meets sets p v has = (
 abbrev pub SpreadBelow : List ℕ → ℕ → (ℕ → Type 0) → ℕ → Type 0
 SpreadBelow sets i set v = set v ⊎ ((p : ℕ) × (p < i) × (Meets (PatternHas sets p) set × PatternHas sets p v))
 
+-- one more pattern
 pub SpreadBelow-more : (sets : List ℕ) (i : ℕ) (set : ℕ → Type 0) (v : ℕ) → SpreadBelow sets (i + 1) set v ↔ SpreadBelow sets i set v ⊎ (Meets (PatternHas sets i) set × PatternHas sets i v)
 SpreadBelow-more sets i set v = (
   λ h. elim h [
@@ -92,6 +97,7 @@ SpreadBelow-more sets i set v = (
   ],
 )
 
+-- all patterns
 pub SpreadBelow-all : (sets : List ℕ) (i : ℕ) (set : ℕ → Type 0) (v : ℕ) → length sets ≤ i → SpreadBelow sets i set v ↔ spread_from sets set v
 SpreadBelow-all sets i set v all = (
   λ h. elim h [ inl l ↦ inl l | inr r ↦ inr (r.0, r.2.0, r.2.1) ],

@@ -37,6 +37,7 @@ IsNeighbour-sym sets (Pattern p) (Variable v) h = h
 IsNeighbour-sym sets (Variable v) (Pattern p) h = h
 IsNeighbour-sym sets (Variable v) (Variable w) h = h
 
+-- a variable occurs or not
 cases_OccursIn : (sets : List ℕ) (v : ℕ) → OccursIn sets v ⊎ (¬ OccursIn sets v)
 cases_OccursIn [] v = inr (λ h. HasVariable-zero v h.1)
 cases_OccursIn (set ∷ sets) v =
@@ -49,6 +50,7 @@ cases_OccursIn (set ∷ sets) v =
     at_place zero h ne none = ne h
     at_place (suc p) h ne none = none (p, h)
 
+-- a member was removed or not
 cases_Contains : (steps : List Member) (m : Member) → Contains steps m ⊎ (¬ Contains steps m)
 cases_Contains [] m = inr (λ h. omega (arith, h.1))
 cases_Contains (step ∷ steps) m =
@@ -61,6 +63,7 @@ cases_Contains (step ∷ steps) m =
     at_place zero lt e ne none = ne e
     at_place (suc k) lt e ne none = none (k, omega arith, e)
 
+-- a pattern or a variable is a member of the list or not
 cases_IsMember : (sets : List ℕ) (m : Member) → IsMember sets m ⊎ (¬ IsMember sets m)
 cases_IsMember sets (Pattern p) = elim (cases_lt p (length sets)) [ inl lt ↦ inl lt | inr ge ↦ inr (λ lt. omega arith) ]
 cases_IsMember sets (Variable v) = cases_OccursIn sets v
@@ -70,6 +73,7 @@ pub Contains-from_not_left : (sets : List ℕ) (steps : List Member) (m : Member
 Contains-from_not_left sets steps m is_member gone =
     elim (cases_Contains steps m) [ inl c ↦ c | inr none ↦ absurd (gone (is_member, none)) ]
 
+-- and is left or not
 cases_IsLeft : (sets : List ℕ) (steps : List Member) (m : Member) → IsLeft sets steps m ⊎ (¬ IsLeft sets steps m)
 cases_IsLeft sets steps m =
     elim (cases_IsMember sets m) [
@@ -77,6 +81,7 @@ cases_IsLeft sets steps m =
       | inr none ↦ inr (λ h. none h.0)
     ]
 
+-- whether the first of two cases holds
 test_of : {P : Type 0} → P ⊎ (¬ P) → Bool
 test_of (inl h) = true
 test_of (inr h) = false
@@ -98,12 +103,14 @@ is_left-true sets steps m = test_of-true (cases_IsLeft sets steps m)
 abbrev pub OccursBelow : List ℕ → ℕ → ℕ → Type 0
 OccursBelow sets i v = (p : ℕ) × (p < i) × PatternHas sets p v
 
+-- one more pattern
 pub OccursBelow-more : (sets : List ℕ) (i v : ℕ) → OccursBelow sets (i + 1) v ↔ OccursBelow sets i v ⊎ PatternHas sets i v
 OccursBelow-more sets i v = (
   λ h. elim (cases_eq h.0 i) [ inl e ↦ inr (rw e at h.2) | inr ne ↦ inl (h.0, omega (arith, h.1), h.2) ],
   λ h. elim h [ inl l ↦ (l.0, omega (arith, l.1), l.2) | inr r ↦ (i, omega arith, r) ],
 )
 
+-- all patterns
 pub OccursBelow-all : (sets : List ℕ) (i v : ℕ) → length sets ≤ i → OccursBelow sets i v ↔ OccursIn sets v
 OccursBelow-all sets i v all =
     (λ h. (h.0, h.2), λ h. (h.0, omega (arith, PatternHas-place sets h.0 v h.1), h.1))

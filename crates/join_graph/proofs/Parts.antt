@@ -30,6 +30,7 @@ moved_test : (ℕ → ℕ) → (Member → Bool) → ℕ → Member → Bool
 moved_test place test n (Pattern q) = stands_at place test q n
 moved_test place test n (Variable v) = test (Variable v)
 
+-- and what that test means
 stands_at-decides : (place : ℕ → ℕ) (test : Member → Bool) (q n : ℕ) → Decides (stands_at place test q n) ((p : ℕ) × (p < n) × ((place p ≡ q) × IsTrue (test (Pattern p))))
 unfolding stands_at
 stands_at-decides place test q n =
@@ -40,12 +41,14 @@ stands_at-decides place test q n =
     n
 
 module _ (part whole : List ℕ) (is_part : IsPart part whole) (test : Member → Bool) (two : EachHasTwoNeighbours part (passing test)) where
+  -- what passes in the part passes in the whole
   moved_in : (m : Member) → passing test m → passing (moved_test is_part.place test (length part)) (moved is_part.place m)
   unfolding moved moved_test
   moved_in (Pattern p) pass =
       (stands_at-decides is_part.place test (is_part.place p) (length part)).1 (p, IsMember-from_two part (passing test) two (Pattern p) pass, (refl, pass))
   moved_in (Variable v) pass = pass
 
+  -- what passes in the whole comes from the part
   moved_from : (m : Member) → passing (moved_test is_part.place test (length part)) m → (n : Member) × passing test n × (moved is_part.place n ≡ m)
   unfolding moved moved_test
   moved_from (Pattern q) pass =
@@ -53,6 +56,7 @@ module _ (part whole : List ℕ) (is_part : IsPart part whole) (test : Member �
       (Pattern from.0, from.2.1, ap Pattern from.2.0)
   moved_from (Variable v) pass = (Variable v, pass, refl)
 
+  -- variables, neighbours and differences stay
   moved_has : (p v : ℕ) → PatternHas part p v → PatternHas whole (is_part.place p) v
   moved_has p v has =
       rw (slice_index-same whole part (is_part.place p) p (is_part.same p (PatternHas-place part p v has))) has
@@ -71,6 +75,7 @@ module _ (part whole : List ℕ) (is_part : IsPart part whole) (test : Member �
   moved_apart (Variable v) (Pattern p) is_m is_n e = cc
   moved_apart (Variable v) (Variable w) is_m is_n e = e
 
+  -- so each member that passes in the whole has two neighbours that pass
   moved_two : EachHasTwoNeighbours whole (passing (moved_test is_part.place test (length part)))
   moved_two m pass =
       let from = moved_from m pass in
@@ -84,6 +89,7 @@ module _ (part whole : List ℕ) (is_part : IsPart part whole) (test : Member �
         apart = λ e. both.apart (moved_apart both.first both.second (is_member both.first both.first_in.1) (is_member both.second both.second_in.1) e);
       })
 
+-- a part of a forest is a forest
 pub IsForest-part : (part whole : List ℕ) → IsPart part whole → IsForest whole → IsForest part
 unfolding core_of IsForest
 IsForest-part part whole is_part forest =

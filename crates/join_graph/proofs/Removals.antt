@@ -1,16 +1,17 @@
 -- Removal: whatever the order, what is left is the core; the order by the rule is one; and a removal under way.
-use Rattle.std.proofs.Common.{◌≡◌, ◌≢◌, ℕ, zero, suc, ◌+◌, ◌<◌, ◌≤◌, ◌↔◌, inl, inr, refl, sym, ap, ◌∙◌, subst, arith, add-one, List, [], ◌∷◌, ◌++◌, length, get_or, take, EachIndex, Contains}
+use Rattle.std.proofs.Common.{◌≡◌, ◌≢◌, ℕ, zero, suc, ◌+◌, ◌<◌, ◌≤◌, ◌↔◌, Some, inl, inr, refl, sym, ap, ◌∙◌, subst, arith, add-one, List, [], ◌∷◌, ◌++◌, length, get_or, take, EachIndex, Contains}
 use Rattle.std.specs.List.{HoldsAt}
 use Rattle.std.proofs.lemmas.Bool.{cases_lt, cases_order}
-use Rattle.std.proofs.lemmas.List.{take_all, take_at, take_more, take_more_same, take-append-le, get_or_at, get_or_append_left, length_push}
+use Rattle.std.proofs.lemmas.List.{length-take, get_or-take, get_or_default, take_all, take_at, take_more, take_more_same, take-append-le, get_or_at, get_or_append_left, length_push}
+use Rattle.std.proofs.lemmas.Option.{slice_get-get_or}
 use Rattle.std.proofs.lemmas.List.Elements.{Contains-append_left, Contains-push, Contains-push_cases}
 use Rattle.join_graph.specs.declared.steps.Step.TheVariants.{Pattern, Variable}
 use Rattle.join_graph.specs.Sets.{HasSize, without}
-use Rattle.join_graph.specs.Members.{Member, IsMember}
+use Rattle.join_graph.specs.Members.{Member, IsMember, IsNeighbour}
 use Rattle.join_graph.specs.Core.{EachHasTwoNeighbours, passing, core_of, IsForest}
-use Rattle.join_graph.specs.Removal.{Removal, IsLeft, IsLeaf, IsNext, IsRemoval, IsRemovalOrder, LeavesCore, RemovesAll}
+use Rattle.join_graph.specs.Removal.{Removal, IsLeft, IsLeaf, IsNext, IsRemoval, IsRemovalOrder, LeavesCore, RemovesAll, GoesBefore, PartsNeighbours}
 use Rattle.join_graph.proofs.Sizes.{HasSize-same, HasSize-without}
-use Rattle.join_graph.proofs.Members.{cases_Member, Contains-from_not_left, is_left, is_left-true}
+use Rattle.join_graph.proofs.Members.{cases_Member, Contains-from_not_left, IsMember-from_neighbour, IsNeighbour-sym, is_left, is_left-true}
 use Rattle.join_graph.proofs.Cores.{EachHasTwoNeighbours-same, IsMember-from_two, no_leaf, IsLeaf-same}
 
 -- a step more
@@ -58,6 +59,7 @@ pub IsLeaf-from_next : (sets : List ℕ) (left : Member → Type 0) (m : Member)
 IsLeaf-from_next sets left (Pattern p) next = next.0
 IsLeaf-from_next sets left (Variable v) next = next.0
 
+-- the order by the rule is one of the orders that there may be
 pub IsRemoval-from_order : (sets : List ℕ) (steps : List Member) → IsRemovalOrder sets steps → IsRemoval sets steps
 IsRemoval-from_order sets steps order =
     record {
@@ -138,6 +140,7 @@ pub record IsUnderWay (sets : List ℕ) (left : Member → Type 0) (done : Remov
   pub rest : (m : Member) → left m ↔ IsLeft sets done.steps m
   pub size : HasSize (IsLeft sets done.steps) done.core
 
+-- before the first step
 pub IsUnderWay-start : (sets : List ℕ) (left : Member → Type 0) (done : Removal) → done.steps ≡ [] → ((m : Member) → left m ↔ IsMember sets m) → HasSize (IsMember sets) done.core → IsUnderWay sets left done
 IsUnderWay-start sets left done none all size =
     let never : (m : Member) → ¬ Contains done.steps m = λ m c. omega (arith, ap length none, c.1) in
@@ -147,6 +150,7 @@ IsUnderWay-start sets left done none all size =
       size = HasSize-same (IsMember sets) (IsLeft sets done.steps) done.core (λ m h. (h, never m)) (λ m h. h.0) size;
     }
 
+-- after one more step
 pub IsUnderWay-step : (sets : List ℕ) (left fewer : Member → Type 0) (done more : Removal) (m : Member) → IsUnderWay sets left done → IsNext sets left m → ((n : Member) → fewer n ↔ without left m n) → more.steps ≡ done.steps ++ m ∷ [] → more.core + 1 ≡ done.core → IsUnderWay sets fewer more
 IsUnderWay-step sets left fewer done more m way next removed pushed count =
     let next_left = IsNext-same sets left (IsLeft sets done.steps) m (λ n. (way.rest n).0) (λ n. (way.rest n).1) next in
@@ -171,3 +175,42 @@ IsUnderWay-end sets left done way two =
     } in
     let core = LeavesCore-from_removal sets done.steps (IsRemoval-from_order sets done.steps order) in
     (order, HasSize-same (IsLeft sets done.steps) (core_of sets) done.core (λ m. (core m).0) (λ m. (core m).1) way.size)
+
+-- what is among the first steps is among more of them
+Contains-take : (steps : List Member) (i j : ℕ) (m : Member) → i ≤ j → Contains (take i steps) m → Contains (take j steps) m
+Contains-take steps i j m le c =
+    let within : c.0 < i = omega (arith, length-take i steps, c.1) in
+    let same : get_or (take j steps) c.0 m ≡ get_or (take i steps) c.0 m =
+    get_or-take j steps c.0 m (omega arith) ∙ sym (get_or-take i steps c.0 m within) in
+    (c.0, omega (arith, length-take i steps, length-take j steps, c.1), same ∙ c.2)
+
+-- a member that goes later is left before
+GoesBefore-from_places : (sets : List ℕ) (steps : List Member) → IsRemoval sets steps → (m n : Member) (i j : ℕ) → i < j → j < length steps → get_or steps i m ≡ m → get_or steps j n ≡ n → GoesBefore sets steps m n
+GoesBefore-from_places sets steps removal m n i j lt within at_i at_j =
+    let leaf = rw at_j at (removal.leaves j within n) in
+    record {
+      at = i;
+      step = slice_get-get_or steps i m (omega arith) ∙ ap Some at_i;
+      left = (leaf.0.0, λ c. leaf.0.1 (Contains-take steps i j n (omega arith) c));
+    }
+
+-- no member is a neighbour of its own
+not_own_neighbour : (sets : List ℕ) (m : Member) → ¬ IsNeighbour sets m m
+not_own_neighbour sets (Pattern p) near = near
+not_own_neighbour sets (Variable v) near = near
+
+-- where every member is removed, of any two neighbours one goes while the other is left
+pub PartsNeighbours-from_all : (sets : List ℕ) (steps : List Member) → IsRemoval sets steps → RemovesAll sets steps → PartsNeighbours sets steps
+PartsNeighbours-from_all sets steps removal all =
+    λ m n near.
+    let at_m = all m (IsMember-from_neighbour sets m n near) in
+    let at_n = all n (IsMember-from_neighbour sets n m (IsNeighbour-sym sets m n near)) in
+    elim (cases_order at_m.0 at_n.0) [
+      | inl e ↦
+          let same : m ≡ n = sym at_m.2 ∙ get_or_default steps at_m.0 m n at_m.1 ∙ ap (λ k. get_or steps k n) e ∙ at_n.2 in
+          absurd (not_own_neighbour sets m (subst (IsNeighbour sets m) (sym same) near))
+      | inr o ↦ elim o [
+        | inl lt ↦ inl (GoesBefore-from_places sets steps removal m n at_m.0 at_n.0 lt at_n.1 at_m.2 at_n.2)
+        | inr gt ↦ inr (GoesBefore-from_places sets steps removal n m at_n.0 at_m.0 gt at_m.1 at_n.2 at_m.2)
+      ]
+    ]

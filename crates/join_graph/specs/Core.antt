@@ -1,4 +1,4 @@
--- The core of a list of patterns, and forests: the lists whose core is empty.
+-- The core of a list of patterns (in graph theory the 2-core of its join graph), and forests, whose core is empty.
 use Rattle.std.specs.Prelude.{◌≡◌, ℕ, ◌<◌, Bool, IsTrue, List, length, slice_get}
 use Rattle.join_graph.specs.Sets.{HasTwo}
 use Rattle.join_graph.specs.Members.{Member, IsNeighbour}
@@ -7,22 +7,22 @@ use Rattle.join_graph.specs.Members.{Member, IsNeighbour}
 abbrev pub neighbours_in : List ℕ → (Member → Type 0) → Member → Member → Type 0
 neighbours_in sets set member neighbour = IsNeighbour sets member neighbour × set neighbour
 
--- each member of the set has at least two neighbours in the set
+-- each member of the set has at least two neighbours in the set; nothing but a member of the list has a neighbour
 abbrev pub EachHasTwoNeighbours : List ℕ → (Member → Type 0) → Type 0
 EachHasTwoNeighbours sets set = (member : Member) → set member → HasTwo (neighbours_in sets set member)
 
--- the members that pass a test
+-- the set of what passes a test
 abbrev pub passing : (Member → Bool) → Member → Type 0
 passing test member = IsTrue (test member)
 
--- the core is the union of all sets in which each member has at least two neighbours
-unfoldable pub core_of : List ℕ → Member → Type 0
-core_of sets member = (test : Member → Bool) × EachHasTwoNeighbours sets (passing test) × passing test member
-
--- the core is such a set itself, and so the largest
+-- a set is the core where it is the largest in which each member has at least two neighbours
 pub record IsCore (sets : List ℕ) (core : Member → Type 0) : Type 0 where
   pub two_each : EachHasTwoNeighbours sets core
   pub largest : (test : Member → Bool) → EachHasTwoNeighbours sets (passing test) → (member : Member) → passing test member → core member
+
+-- the core: the union of all sets in which each member has at least two neighbours
+unfoldable pub core_of : List ℕ → Member → Type 0
+core_of sets member = (test : Member → Bool) × EachHasTwoNeighbours sets (passing test) × passing test member
 
 -- the core is empty
 unfoldable pub IsForest : List ℕ → Type 0

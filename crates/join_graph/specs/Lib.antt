@@ -4,4 +4,5 @@ pub mod Core
 pub mod Removal
 pub mod Left
 pub mod Chains
+pub mod Reach
 pub mod Nodes

@@ -1,9 +1,9 @@
 -- Removal: again and again a member goes that has at most one neighbour left.
-use Rattle.std.specs.Prelude.{ℕ, ◌<◌, ◌↔◌, List, take, Contains, EachIndex}
+use Rattle.std.specs.Prelude.{◌≡◌, ℕ, ◌<◌, ◌↔◌, ◌⊎◌, Some, List, take, slice_get, Contains, EachIndex}
 use Rattle.std.specs.List.{HoldsAt}
 use Rattle.join_graph.specs.declared.steps.Step.TheVariants.{Pattern, Variable}
 use Rattle.join_graph.specs.Sets.{HasAtMostOne}
-use Rattle.join_graph.specs.Members.{Member, IsMember}
+use Rattle.join_graph.specs.Members.{Member, IsMember, IsNeighbour}
 use Rattle.join_graph.specs.Core.{neighbours_in, EachHasTwoNeighbours, core_of}
 
 -- the members that were removed, in their order, and how many were not
@@ -44,3 +44,14 @@ LeavesCore sets steps = (member : Member) → IsLeft sets steps member ↔ core_
 -- every member was removed
 abbrev pub RemovesAll : List ℕ → List Member → Type 0
 RemovesAll sets steps = (member : Member) → IsMember sets member → Contains steps member
+
+-- a step removes the first member while the second is left
+pub record GoesBefore (sets : List ℕ) (steps : List Member) (first second : Member) : Type 0 where
+  pub at : ℕ
+  pub step : slice_get steps at ≡ Some first
+  pub left : IsLeft sets (take at steps) second
+
+-- of any two neighbours one is removed while the other is left
+abbrev pub PartsNeighbours : List ℕ → List Member → Type 0
+PartsNeighbours sets steps =
+    (m n : Member) → IsNeighbour sets m n → GoesBefore sets steps m n ⊎ GoesBefore sets steps n m

@@ -1,4 +1,4 @@
--- Sets, each given by what holds of its members: how many members a set has.
+-- Sets, each given by what holds of its members, and how many members they have.
 use Rattle.std.specs.Prelude.{◌≡◌, ◌≢◌, ℕ}
 use Rattle.std.proofs.Common.{zero, suc}
 
@@ -6,7 +6,7 @@ use Rattle.std.proofs.Common.{zero, suc}
 abbrev pub HasAtMostOne : {X : Type 0} → (X → Type 0) → Type 0
 HasAtMostOne {X} set = (x y : X) → set x → set y → x ≡ y
 
--- two members are not the same
+-- at least two members: some two that are not the same
 pub record HasTwo {X : Type 0} (set : X → Type 0) : Type 0 where
   pub first : X
   pub second : X

@@ -3,7 +3,8 @@
 ghost use Rattle.std.specs.Prelude.{◌≡◌, ℕ, ◌≤◌, ◌↔◌, ◌⊎◌, IsTrue};
 ghost use Rattle.join_graph.specs.Sets.{Meets};
 ghost use Rattle.join_graph.specs.Members.{HasVariable};
-ghost use Rattle.join_graph.specs.Chains.{IsConnected, EachMeets, joined_to, spread_from};
+ghost use Rattle.join_graph.specs.Chains.{IsConnected};
+ghost use Rattle.join_graph.specs.Reach.{EachMeets, joined_to, spread_from};
 
 use crate::variables::meet;
 

@@ -4,7 +4,7 @@ ghost use Rattle.std.specs.Prelude.{◌≡◌, ℕ, ◌≤◌, ◌↔◌, List, 
 ghost use Rattle.join_graph.specs.Sets.{HasSize};
 ghost use Rattle.join_graph.specs.Members.{Member, IsMember};
 ghost use Rattle.join_graph.specs.Core.{EachHasTwoNeighbours, core_of, IsCore, IsForest, IsPart};
-ghost use Rattle.join_graph.specs.Removal.{IsNext, IsRemoval, IsRemovalOrder, LeavesCore, RemovesAll};
+ghost use Rattle.join_graph.specs.Removal.{IsNext, IsRemoval, IsRemovalOrder, LeavesCore, RemovesAll, PartsNeighbours};
 ghost use Rattle.join_graph.specs.Left.{IsKept, HasTwoIfKept};
 
 use crate::left::Left;
@@ -25,6 +25,7 @@ pub fn strip(sets: &[u64]) -> Order
     ensures rest_is_core { (steps : List Member) → IsRemoval sets.now steps → LeavesCore sets.now steps }
     ensures core_is_largest { IsCore sets.now (core_of sets.now) }
     ensures forest { IsForest sets.now ↔ RemovesAll sets.now result.steps }
+    ensures pairs { IsForest sets.now → PartsNeighbours sets.now result.steps }
     ensures part_of_forest { (part : List ℕ) → IsPart part sets.now → IsForest sets.now → IsForest part }
 {
     let mut left = Left::all(sets);

@@ -4,7 +4,7 @@ ghost use Rattle.std.specs.Prelude.{◌≡◌, ◌+◌, ◌<◌, ◌≤◌, [], 
 
 use std::marker::Model;
 
-/// A member of the graph that is removed: a pattern by its place in the list, or a variable by its number.
+/// The removal of a pattern, by its place in the list from 0, or of a variable, by its number.
 #[derive(Clone, Copy, PartialEq, Eq, Debug)]
 pub enum Step {
     Pattern(u16),
@@ -17,7 +17,7 @@ pub(crate) const MAX_PATTERNS: usize = 256;
 /// As many steps as there can be: a step for each pattern, and one for each of 64 variables.
 const MAX_STEPS: usize = MAX_PATTERNS + 64;
 
-/// The members that were removed, in their order, and how many were not.
+/// The steps of a removal in their order, and how many members were not removed.
 #[derive(Drop)]
 pub struct Order {
     steps: [Step; MAX_STEPS],

@@ -1,6 +1,6 @@
 use Rattle.std.proofs.Common.{refl, arith}
 use Rattle.join_graph.specs.Members.{HasVariable, PatternHas}
-use Rattle.join_graph.specs.Chains.{joined_to}
+use Rattle.join_graph.specs.Reach.{joined_to}
 use Rattle.join_graph.proofs.Bits.{HasVariable-some}
 use Rattle.join_graph.proofs.Joins.{EachMeets-same, IsConnected-empty, IsConnected-from_meets}
 use Rattle.join_graph.proofs.chains.is_connected.Goals as goal

@@ -1,6 +1,7 @@
 use Rattle.std.proofs.Common.{ℕ, inl, inr}
 use Rattle.join_graph.specs.Members.{HasVariable}
-use Rattle.join_graph.specs.Chains.{here, spread_from}
+use Rattle.join_graph.specs.Chains.{here}
+use Rattle.join_graph.specs.Reach.{spread_from}
 use Rattle.join_graph.proofs.Joins.{joined_to-more, joined_to-closed}
 use Rattle.join_graph.proofs.chains.joined.Goals as goal
 

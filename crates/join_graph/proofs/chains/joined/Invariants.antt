@@ -1,6 +1,6 @@
 use Rattle.std.proofs.Common.{ℕ, ◌-◌, ◌^◌}
 use Rattle.join_graph.specs.Members.{HasVariable}
-use Rattle.join_graph.specs.Chains.{joined_to}
+use Rattle.join_graph.specs.Reach.{joined_to}
 use Rattle.join_graph.proofs.chains.joined.Given as goal
 
 abbrev pub invariant-loop-reached : goal.invariant-loop-reached

@@ -1,7 +1,7 @@
 use Rattle.join_graph.specs.Left.{IsKept}
 use Rattle.join_graph.proofs.Sizes.{HasSize-positive}
 use Rattle.join_graph.proofs.Cores.{core_is_largest}
-use Rattle.join_graph.proofs.Removals.{IsUnderWay-start, IsUnderWay-step, IsUnderWay-end, IsLeaf-from_next, IsRemoval-from_order, IsRemovalOrder-unique, LeavesCore-from_removal, IsForest-from_core}
+use Rattle.join_graph.proofs.Removals.{IsUnderWay-start, IsUnderWay-step, IsUnderWay-end, IsLeaf-from_next, IsRemoval-from_order, IsRemovalOrder-unique, LeavesCore-from_removal, IsForest-from_core, PartsNeighbours-from_all}
 use Rattle.join_graph.proofs.Parts.{IsForest-part}
 use Rattle.join_graph.proofs.removal.strip.Goals as goal
 
@@ -43,6 +43,10 @@ returns-clause-core_is_largest c = core_is_largest c.args.sets.now
 pub returns-clause-forest : goal.returns-clause-forest
 returns-clause-forest c =
     IsForest-from_core c.args.sets.now c.loop-step.order.steps (LeavesCore-from_removal c.args.sets.now c.loop-step.order.steps (returns-clause-leaves c))
+
+pub returns-clause-pairs : goal.returns-clause-pairs
+returns-clause-pairs c =
+    λ forest. PartsNeighbours-from_all c.args.sets.now c.loop-step.order.steps (returns-clause-leaves c) ((returns-clause-forest c).0 forest)
 
 pub returns-clause-part_of_forest : goal.returns-clause-part_of_forest
 returns-clause-part_of_forest c = λ part. IsForest-part part c.args.sets.now
