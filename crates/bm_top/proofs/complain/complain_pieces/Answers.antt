@@ -11,7 +11,7 @@ loop-piece-preserved g c =
     let before = all_of (take c.loop-piece.piece-index c.args.pieces.now) in
     let more = pieces-more c.args.pieces.now c.loop-piece.piece-index no_piece c.loop-piece-test.true in
     record {
-      said = Step-then c.loop-piece.invariant.said c.in-Ok.ensures.step (λ m k n so_far moved. moved ∙ ap (λ w. with_complained w piece) so_far ∙ complained_appends.more m before piece ∙ ap (with_complained m) (sym more));
+      said = Step-then c.loop-piece.invariant.said c.in-Ok.ensures.step (λ m k n so_far moved. moved ∙ ap (λ w. with_complained w piece) so_far ∙ complained_appends m before piece ∙ ap (with_complained m) (sym more));
       later = omega (arith, c.loop-piece.invariant.later, c.in-Ok.ensures.cause.later);
       reads = c.in-Ok.ensures.read_faults_stay ∙ c.loop-piece.invariant.reads;
       writes = c.in-Ok.ensures.write_faults_stay ∙ c.loop-piece.invariant.writes;
@@ -19,7 +19,7 @@ loop-piece-preserved g c =
 
 pub returns-in-Err-clause-step : goal.returns-in-Err-clause-step
 returns-in-Err-clause-step g c =
-    appends_some complained_appends (Step-weaken c.loop-piece.invariant.said (AppendsUpTo-pieces c.args.pieces.now c.loop-piece.piece-index no_piece c.loop-piece-test.true))
+    appends_some with_complained complained_appends (Step-weaken c.loop-piece.invariant.said (AppendsUpTo-pieces c.args.pieces.now c.loop-piece.piece-index no_piece c.loop-piece-test.true))
     (Step-weaken c.in-Err.ensures.step (AppendsSome-wider (get_or c.args.pieces.now c.loop-piece.piece-index no_piece).now (all_of (drop (suc c.loop-piece.piece-index) c.args.pieces.now))))
 
 pub returns-clause-step : goal.returns-clause-step
