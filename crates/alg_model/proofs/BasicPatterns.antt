@@ -37,6 +37,7 @@ AreRowsOf-same n vs ws P Q rows others vars list facts are = record {
 -- ---- lists of one row, and of none
 
 module _ {V : Type 0} (n : ℕ) where
+  -- the one row that binds nothing is the row that binds just no variable
   rows-unbound : (P : Row V → Type 0) → P (unbound V n) → AreRowsOf n [] P (unbound V n ∷ [])
   rows-unbound P holds = record {
     sound = λ row h. subst (IsRowOf n [] P) (Contains-single (unbound V n) row h) (record {
@@ -50,6 +51,7 @@ module _ {V : Type 0} (n : ℕ) where
         subst (Contains (unbound V n ∷ [])) one (Contains-head (unbound V n) []);
   }
 
+  -- no row has what none can have
   rows-nil : (vars : List ℕ) (P : Row V → Type 0) → ((row : Row V) → ¬ P row) → AreRowsOf n vars P []
   rows-nil vars P never = record { sound = λ row h. absurd (Contains-nil row h); complete = λ row is. absurd (never row is.holds) }
 
@@ -58,6 +60,7 @@ module _ {V : Type 0} (n : ℕ) where
   rows-test true = rows-unbound (λ row. IsTrue true) refl
   rows-test false = rows-nil [] (λ row. IsTrue false) (λ row h. cc)
 
+  -- the one row that binds a variable to a value
   rows-single : (var : ℕ) (v : V) → var < n → AreRowsOf n (var ∷ []) (λ row. binding row var ≡ Some v) (single n var v ∷ [])
   rows-single var v low =
       let row = single n var v in
@@ -82,10 +85,12 @@ module _ {V : Type 0} (n : ℕ) where
 
 -- ---- both_rows is a Join
 
+-- an item that may be there, as the Join of two lists of one row gives it
 option_as_list : {Y : Type 0} (o : Option Y) → option_to_list o ≡ cons_option o [] ++ []
 option_as_list None = refl
 option_as_list (Some y) = refl
 
+-- two rows as one, as the Join of their lists
 both_rows_as_join : {V : Type 0} (test : V → V → Bool) (r s : Option (Row V)) → option_to_list (both_rows test r s) ≡ join test (option_to_list r) (option_to_list s)
 both_rows_as_join test None s = refl
 both_rows_as_join test (Some r) None = refl
@@ -94,20 +99,24 @@ both_rows_as_join test (Some r) (Some s) = option_as_list (merged test r s)
 module _ {V X : Type 0} (reading : Reading V X) (faithful : IsFaithful reading) (n : ℕ) where
   -- ---- a place
 
+  -- what a place matches is the row that binds just its variable and makes it the value
   rows_of_place : (place : Place) (value : V) → AreBelow n (place_vars place) → AreRowsOf n (place_vars place) (λ row. Becomes reading row place value) (option_to_list (place_row reading n place value))
   rows_of_place (places.Term text) value below = rows-test n (reading.stands_for value text)
   rows_of_place (places.Var var) value below = rows-single n var.0 value (below var.0 (Contains-head var.0 []))
 
+  -- what a place becomes depends on its variable alone
   looks_place : (place : Place) (value : V) → LooksAt (place_vars place) (λ row. Becomes reading row place value)
   looks_place (places.Term text) value = record { along = λ r s same is. is }
   looks_place (places.Var var) value = record { along = λ r s same is. sym (same var.0 (Contains-head var.0 [])) ∙ is }
 
+  -- a place becomes one value under one row
   one_place : (place : Place) (row : Row V) (v w : V) → Becomes reading row place v → Becomes reading row place w → v ≡ w
   one_place (places.Term text) row v w p q = faithful.one_value v w text p q
   one_place (places.Var var) row v w p q = cc
 
   -- ---- a triple pattern and a triple
 
+  -- what a triple pattern becomes depends on its variables alone
   looks_makes : (pattern : TriplePat) (triple : X) → LooksAt (triple_vars pattern) (λ row. Makes reading row pattern triple)
   looks_makes pattern triple =
       let s = place_vars pattern.subject in
@@ -122,6 +131,7 @@ module _ {V X : Type 0} (reading : Reading V X) (faithful : IsFaithful reading) 
         };
       }
 
+  -- the match of a triple is the row that binds just the variables of the pattern and makes it the triple
   rows_of_match : (pattern : TriplePat) (triple : X) → AreBelow n (triple_vars pattern) → AreRowsOf n (triple_vars pattern) (λ row. Makes reading row pattern triple) (option_to_list (match_of reading n pattern triple))
   rows_of_match pattern triple below =
       let test = reading.same in
@@ -158,15 +168,19 @@ module _ {V X : Type 0} (reading : Reading V X) (faithful : IsFaithful reading) 
   -- ---- a triple pattern and a list of triples
 
   module _ (triples : List X) where
+    -- the row makes the triple pattern one of the triples
     abbrev MakesOne : TriplePat → Row V → Type 0
     MakesOne pattern row = Any (Makes reading row pattern) triples
 
+    -- this depends on the variables of the pattern alone
     looks_makes_one : (pattern : TriplePat) → LooksAt (triple_vars pattern) (MakesOne pattern)
     looks_makes_one pattern = record { along = λ r q same a. (a.0, a.1, a.2, a.3, (looks_makes pattern a.1).along r q same a.4) }
 
+    -- the matches, as a `flat_map` over the triples
     matches_as_flat_map : (pattern : TriplePat) → matches_of reading n pattern triples ≡ flat_map (λ t. option_to_list (match_of reading n pattern t)) triples
     matches_as_flat_map pattern = filter_map_as_flat_map (match_of reading n pattern) triples
 
+    -- the matches are the rows that bind just the variables of the pattern and make it one of the triples
     rows_of_matches : (pattern : TriplePat) → AreBelow n (triple_vars pattern) → AreRowsOf n (triple_vars pattern) (MakesOne pattern) (matches_of reading n pattern triples)
     rows_of_matches pattern below =
         let each = λ (t : X). option_to_list (match_of reading n pattern t) in
@@ -182,6 +196,7 @@ module _ {V X : Type 0} (reading : Reading V X) (faithful : IsFaithful reading) 
               ((are one.1).complete row (record { width = is.width; binds = is.binds; holds = one.4 }));
         })
 
+    -- no match stands twice
     once_matches : (pattern : TriplePat) → AreBelow n (triple_vars pattern) → AllPairs (λ t u. t ≢ u) triples → AllPairs (λ r s. r ≢ s) (matches_of reading n pattern triples)
     once_matches pattern below once =
         subst (AllPairs (λ r s. r ≢ s)) (sym (matches_as_flat_map pattern))
@@ -190,20 +205,25 @@ module _ {V X : Type 0} (reading : Reading V X) (faithful : IsFaithful reading) 
 
     -- ---- a list of triple patterns
 
+    -- the rows so far, joined with the matches of one more triple pattern
     abbrev step : List (Row V) → TriplePat → List (Row V)
     step rows pattern = join reading.same rows (matches_of reading n pattern triples)
 
+    -- the variables of the first triple pattern are below n
     below_first : (pattern : TriplePat) (patterns : List TriplePat) → AreBelow n (flat_map triple_vars (pattern ∷ patterns)) → AreBelow n (triple_vars pattern)
     below_first pattern patterns below k at = below k (Contains-append_left (triple_vars pattern) (flat_map triple_vars patterns) k at)
 
+    -- and those of the rest
     below_rest : (pattern : TriplePat) (patterns : List TriplePat) → AreBelow n (flat_map triple_vars (pattern ∷ patterns)) → AreBelow n (flat_map triple_vars patterns)
     below_rest pattern patterns below k at = below k (Contains-append_right (triple_vars pattern) (flat_map triple_vars patterns) k at)
 
+    -- one more triple pattern: the rows make it one of the triples too
     rows_of_step : (vs : List ℕ) (P : Row V → Type 0) (rows : List (Row V)) (pattern : TriplePat) → LooksAt vs P → AreRowsOf n vs P rows → AreBelow n (triple_vars pattern) →
         AreRowsOf n (vs ++ triple_vars pattern) (λ row. P row × MakesOne pattern row) (step rows pattern)
     rows_of_step vs P rows pattern looks are below =
         rows-join reading.same faithful.same n vs (triple_vars pattern) P (MakesOne pattern) rows (matches_of reading n pattern triples) are (rows_of_matches pattern below) looks (looks_makes_one pattern)
 
+    -- a list of triple patterns: the rows make each of them one of the triples
     rows_of_fold : (patterns : List TriplePat) (vs : List ℕ) (P : Row V → Type 0) (rows : List (Row V)) → LooksAt vs P → AreRowsOf n vs P rows → AreBelow n (flat_map triple_vars patterns) →
         AreRowsOf n (vs ++ flat_map triple_vars patterns) (λ row. P row × All (λ pattern. MakesOne pattern row) patterns) (fold step rows patterns)
     rows_of_fold [] vs P rows looks are below =
@@ -220,6 +240,7 @@ module _ {V X : Type 0} (reading : Reading V X) (faithful : IsFaithful reading) 
         (fold step (step rows pattern) patterns) (fold step (step rows pattern) patterns) (append_assoc vs mine rest) refl
         (λ row. (λ h. (h.0.0, All-cons (made row) pattern patterns h.0.1 h.1), λ h. ((h.0, All-head (made row) pattern patterns h.1), All-tail (made row) pattern patterns h.1))) later
 
+    -- no row stands twice
     once_fold : AllPairs (λ t u. t ≢ u) triples → (patterns : List TriplePat) (vs : List ℕ) (P : Row V → Type 0) (rows : List (Row V)) → LooksAt vs P → AreRowsOf n vs P rows → AreBelow n (flat_map triple_vars patterns) →
         AllPairs (λ r s. r ≢ s) rows → AllPairs (λ r s. r ≢ s) (fold step rows patterns)
     once_fold distinct [] vs P rows looks are below once = once
@@ -236,9 +257,11 @@ module _ {V X : Type 0} (reading : Reading V X) (faithful : IsFaithful reading) 
   rows_of_none : AreRowsOf n [] (λ (row : Row V). ⊤) (unbound V n ∷ [])
   rows_of_none = rows-unbound n (λ row. ⊤) tt
 
+  -- this depends on no variable
   looks_none : LooksAt [] (λ (row : Row V). ⊤)
   looks_none = record { along = λ r s same h. h }
 
+  -- the rows of a basic graph pattern are exactly its solutions
   pub basic-exactly : (patterns : List TriplePat) (triples : List X) → HasVarsBelow n (Basic patterns) → (row : Row V) → Contains (bgp_rows reading n patterns triples) row ↔ IsSolution reading n patterns triples row
   basic-exactly patterns triples below row =
       let vars = flat_map triple_vars patterns in
@@ -247,11 +270,13 @@ module _ {V X : Type 0} (reading : Reading V X) (faithful : IsFaithful reading) 
         λ is. are.complete row (record { width = is.width; binds = is.binds; holds = (tt, is.made) }),
       )
 
+  -- over triples without repeats no row of it stands twice
   pub basic-once : (patterns : List TriplePat) (triples : List X) → HasVarsBelow n (Basic patterns) → AllPairs (λ t u. t ≢ u) triples → AllPairs (λ r s. r ≢ s) (bgp_rows reading n patterns triples)
   basic-once patterns triples below distinct =
       let vars = flat_map triple_vars patterns in
       once_fold triples distinct patterns [] (λ row. ⊤) (unbound V n ∷ []) looks_none rows_of_none (λ k at. All-contains (λ k. k < n) vars k below at) (AllPairs-option (λ r s. r ≢ s) (Some (unbound V n)))
 
+  -- both in one
   pub basic-solutions : (patterns : List TriplePat) (triples : List X) → HasVarsBelow n (Basic patterns) → AllPairs (λ t u. t ≢ u) triples → AreSolutions reading n patterns triples (bgp_rows reading n patterns triples)
   basic-solutions patterns triples below distinct = record { exactly = basic-exactly patterns triples below; once = basic-once patterns triples below distinct }
 

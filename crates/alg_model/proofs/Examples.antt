@@ -14,6 +14,7 @@ use Rattle.alg_model.specs.Solution.{BindsJust, Makes, IsSolution}
 use Rattle.alg_model.specs.Limits.{KeepsLimits}
 use Rattle.alg_model.proofs.Lists.{Contains-head, Contains-single, AllPairs-append, AllPairs-option}
 
+-- three terms that are subjects and objects, and one predicate
 abbrev a : List ℕ
 a = codes "<a>"
 
@@ -29,6 +30,7 @@ p = codes "<p>"
 abbrev triple : List ℕ → List ℕ → Triple
 triple subject object = record { subject = subject; predicate = p; object = object }
 
+-- three variables
 abbrev x : Place
 x = places.Var (record { 0 = 0 })
 
@@ -72,11 +74,13 @@ optional_part = refl
 cross_product : eval as_terms 2 (Joined (Basic (pattern x (term b) 1 ∷ [])) (Basic (pattern y (term c) 2 ∷ []))) (triple a b ∷ triple b c ∷ triple c b ∷ []) ≡ (Some a ∷ Some b ∷ []) ∷ (Some c ∷ Some b ∷ []) ∷ []
 cross_product = refl
 
+-- a list of one item
 all-single : {X : Type 0} (P : X → Type 0) (item : X) → P item → All P (item ∷ [])
 all-single P item h = All-cons P item [] h (All-nil P)
 
 -- ---- solutions
 
+-- the row a binds just the first variable
 binds_x : BindsJust (Some a ∷ []) (0 ∷ [])
 binds_x zero = (λ _. Contains-head 0 [], λ _. refl)
 binds_x (suc k) = (λ some. cc, λ at. let wrong = Contains-single 0 (suc k) at in cc)
@@ -96,22 +100,28 @@ not_a_solution is = let wrong = Contains-single 0 1 ((is.binds 1).0 refl) in cc
 
 -- ---- limits
 
+-- ?x p ?y . ?y p ?x with these names, of which the second is answered
 abbrev query : List (List ℕ) → Query
 query names = record { names = names; pattern = patterns.Bgp (pattern x y 1 ∷ pattern y x 2 ∷ []); columns = record { 0 = 1 } ∷ []; distinct = false }
 
+-- one letter of ASCII is ASCII
 ascii_letter : (letter : ℕ) → letter < 128 → IsAscii (letter ∷ [])
 ascii_letter letter low zero = low
 ascii_letter letter low (suc i) = lit< tt
 
+-- and so it is text
 one_letter : (letter : ℕ) → letter < 128 → IsUtf8 (letter ∷ [])
 one_letter letter low = IsUtf8-from_ascii (letter ∷ []) (ascii_letter letter low)
 
+-- two names that differ
 x_is_not_y : codes "x" ≢ codes "y"
 x_is_not_y same = let letters : ◌≡◌ {A = ℕ} 120 121 = ap (λ name. get_or name 0 0) same in omega arith
 
+-- the variables of that query are below two
 below_two : (k d : ℕ) → k < 4 → get_or (0 ∷ 1 ∷ 1 ∷ 0 ∷ []) k d < 2
 below_two k d within = All-from_recursion (λ var. var < 2) (0 ∷ 1 ∷ 1 ∷ 0 ∷ []) (lit< tt, (lit< tt, (lit< tt, (lit< tt, tt)))) k d within
 
+-- a query of two names, two triple patterns and one column keeps the limits
 two_names : KeepsLimits (query (codes "x" ∷ codes "y" ∷ []))
 two_names = record {
   few_names = lit≤ tt;

@@ -14,6 +14,7 @@ use Rattle.alg_model.proofs.Cells.{cases_Option, value_from_IsSome, IsSome-from_
 
 -- ---- a row that binds just these variables
 
+-- a row that binds just these variables binds no other
 pub unbound_elsewhere : {V : Type 0} (row : Row V) (vars : List ℕ) (k : ℕ) → BindsJust row vars → ¬ Contains vars k → binding row k ≡ None
 unbound_elsewhere row vars k binds out =
     elim (cases_Option (binding row k)) as (λ _. binding row k ≡ None) [
@@ -21,7 +22,7 @@ unbound_elsewhere row vars k binds out =
       | inr e ↦ e
     ]
 
--- what q binds determines it
+-- a row that binds just these variables, to what q binds them to, is determined by q
 pub determined : {V : Type 0} (n : ℕ) (vars : List ℕ) (r s q : Row V) → HasWidth n r → HasWidth n s → BindsJust r vars → BindsJust s vars →
     ((k : ℕ) (v : V) → binding r k ≡ Some v → binding q k ≡ Some v) → ((k : ℕ) (v : V) → binding s k ≡ Some v → binding q k ≡ Some v) → r ≡ s
 determined n vars r s q hr hs br bs er es =
@@ -42,9 +43,11 @@ determined n vars r s q hr hs br bs er es =
 abbrev has : List ℕ → ℕ → Bool
 has vars k = list_any (eqb k) vars
 
+-- the test is true of a variable that is among these
 has_from_Contains : (vars : List ℕ) (k : ℕ) → Contains vars k → has vars k ≡ true
 has_from_Contains vars k at = list_any_at (eqb k) vars at.0 k at.1 (eq-eqb k (get_or vars at.0 k) (sym at.2))
 
+-- and only of such
 Contains-from_has : (vars : List ℕ) (k : ℕ) → has vars k ≡ true → Contains vars k
 Contains-from_has vars k h =
     let some = Any-from_list_any (eqb k) vars h in
@@ -55,14 +58,17 @@ Contains-from_has vars k h =
 abbrev cut : {V : Type 0} → ℕ → List ℕ → Row V → Row V
 cut n vars row = map (λ k. if has vars k then binding row k else None) (range_with_len 0 n)
 
+-- an unbound cell, whether it is taken or not
 none_either_way : {V : Type 0} (b : Bool) (o : Option V) → o ≡ None → (if b then o else None) ≡ None
 none_either_way true o is = is
 none_either_way false o is = refl
 
 module _ {V : Type 0} (n : ℕ) (vars : List ℕ) (row : Row V) (width : HasWidth n row) where
+  -- a cut row has n cells
   width-cut : HasWidth n (cut n vars row)
   width-cut = length-map-range_with_len (λ k. if has vars k then binding row k else None) 0 n
 
+  -- what a cut row binds a variable to
   binding-cut : (k : ℕ) → binding (cut n vars row) k ≡ (if has vars k then binding row k else None)
   binding-cut k =
       elim (cases_lt k n) as (λ _. binding (cut n vars row) k ≡ (if has vars k then binding row k else None)) [
@@ -70,9 +76,11 @@ module _ {V : Type 0} (n : ℕ) (vars : List ℕ) (row : Row V) (width : HasWidt
         | inr past ↦ binding_past n (cut n vars row) k width-cut past ∙ sym (none_either_way (has vars k) (binding row k) (binding_past n row k width past))
       ]
 
+  -- it binds these variables as the row does
   cut_inside : (k : ℕ) → Contains vars k → binding (cut n vars row) k ≡ binding row k
   cut_inside k at = binding-cut k ∙ cond-true (has vars k) (binding row k) None (has_from_Contains vars k at)
 
+  -- and what it binds is one of these variables, bound as in the row
   cut_value : (k : ℕ) (v : V) → binding (cut n vars row) k ≡ Some v → Contains vars k × (binding row k ≡ Some v)
   cut_value k v is =
       elim (cases_Bool (has vars k)) as (λ _. Contains vars k × (binding row k ≡ Some v)) [
@@ -80,6 +88,7 @@ module _ {V : Type 0} (n : ℕ) (vars : List ℕ) (row : Row V) (width : HasWidt
         | inr out ↦ let none = binding-cut k ∙ cond-false (has vars k) (binding row k) None out in cc
       ]
 
+  -- it binds just these variables, where the row binds them all
   cut_binds : ((k : ℕ) → Contains vars k → IsSome (binding row k)) → BindsJust (cut n vars row) vars
   cut_binds bound k = (
     λ some. let v = value_from_IsSome (binding (cut n vars row) k) some in (cut_value k v.0 v.1).0,
@@ -103,6 +112,7 @@ pub record AreRowsOf {V : Type 0} (n : ℕ) (vars : List ℕ) (P : Row V → Typ
 pub record LooksAt {V : Type 0} (vars : List ℕ) (P : Row V → Type 0) : Type 0 where
   pub along : (r s : Row V) → ((k : ℕ) → Contains vars k → binding r k ≡ binding s k) → P r → P s
 
+-- two facts that look at vs and at ws look together at both
 pub LooksAt-both : {V : Type 0} (vs ws : List ℕ) (P Q : Row V → Type 0) → LooksAt vs P → LooksAt ws Q → LooksAt (vs ++ ws) (λ row. P row × Q row)
 LooksAt-both vs ws P Q hp hq = record {
   along = λ r s same both. (
@@ -114,14 +124,17 @@ LooksAt-both vs ws P Q hp hq = record {
 -- ---- the Join
 
 module _ {V : Type 0} (test : V → V → Bool) where
+  -- the merges of one row, as a `flat_map`
   merged_as_flat_map : (r : Row V) (right : List (Row V)) → filter_map (merged test r) right ≡ flat_map (λ s. option_to_list (merged test r s)) right
   merged_as_flat_map r = filter_map_as_flat_map (merged test r)
 
+  -- a merge of one row, and the other that it came of
   merges-Contains : (r : Row V) (right : List (Row V)) (q : Row V) → Contains (filter_map (merged test r) right) q → (s : Row V) × Contains right s × (merged test r s ≡ Some q)
   merges-Contains r right q h =
       let from = source-flat_map (λ s. option_to_list (merged test r s)) right q (subst (λ rows. Contains rows q) (merged_as_flat_map r right) h) in
       (from.0, from.1, option-Contains (merged test r from.0) q from.2)
 
+  -- the merges of one row have that with each compatible row
   Contains-merges : (r : Row V) (right : List (Row V)) (s q : Row V) → Contains right s → merged test r s ≡ Some q → Contains (filter_map (merged test r) right) q
   Contains-merges r right s q at is =
       subst (λ rows. Contains rows q) (sym (merged_as_flat_map r right))
@@ -134,15 +147,18 @@ module _ {V : Type 0} (test : V → V → Bool) where
       let second = merges-Contains from.0 right q from.2 in
       (from.0, second.0, from.1, second.1, second.2)
 
+  -- the Join has the merge of each two compatible rows
   pub Contains-join : (left right : List (Row V)) (r s q : Row V) → Contains left r → Contains right s → merged test r s ≡ Some q → Contains (join test left right) q
   Contains-join left right r s q hr hs is =
       Contains-flat_map (λ r. filter_map (merged test r) right) left r q hr (Contains-merges r right s q hs is)
 
 module _ {V : Type 0} (test : V → V → Bool) (same : (v w : V) → IsTrue (test v w) ↔ (v ≡ w)) (n : ℕ) (vs ws : List ℕ) (P Q : Row V → Type 0) (left right : List (Row V))
     (are_left : AreRowsOf n vs P left) (are_right : AreRowsOf n ws Q right) where
+  -- a row of the Join binds what its two rows bind
   union_of : (r s q : Row V) → Contains left r → Contains right s → merged test r s ≡ Some q → HasWidth n q × IsUnion r s q
   union_of r s q hr hs is = union_from_merged test same n r s q (are_left.sound r hr).width (are_right.sound s hs).width is
 
+  -- and so it binds just the variables of both
   union_binds : (r s q : Row V) → BindsJust r vs → BindsJust s ws → IsUnion r s q → BindsJust q (vs ++ ws)
   union_binds r s q hr hs u k = (
     λ some. elim (cases_Option (binding r k)) as (λ _. Contains (vs ++ ws) k) [
@@ -162,6 +178,7 @@ module _ {V : Type 0} (test : V → V → Bool) (same : (v w : V) → IsTrue (te
   agrees : (vars : List ℕ) (r q : Row V) → BindsJust r vars → ((k : ℕ) (v : V) → binding r k ≡ Some v → binding q k ≡ Some v) → (k : ℕ) → Contains vars k → binding r k ≡ binding q k
   agrees vars r q binds extends k at = let v = value_from_IsSome (binding r k) ((binds k).1 at) in v.1 ∙ sym (extends k v.0 v.1)
 
+  -- the rows of the Join are those that bind just vs and ws and have both P and Q
   pub rows-join : LooksAt vs P → LooksAt ws Q → AreRowsOf n (vs ++ ws) (λ row. P row × Q row) (join test left right)
   rows-join looks_p looks_q = record {
     sound = λ q h.
@@ -201,6 +218,7 @@ module _ {V : Type 0} (test : V → V → Bool) (same : (v w : V) → IsTrue (te
         (merged_from_union test same n r s q is_r.width is_s.width is.width u);
   }
 
+  -- no row of the Join stands twice, where none of either side does
   pub once-join : AllPairs (λ r s. r ≢ s) left → AllPairs (λ r s. r ≢ s) right → AllPairs (λ r s. r ≢ s) (join test left right)
   once-join once_left once_right =
       once-flat_map (λ r. filter_map (merged test r) right) left once_left

@@ -5,19 +5,23 @@ use Rattle.std.proofs.lemmas.List.{take_more, get_or_append_left, get_or-append_
 use Rattle.std.proofs.lemmas.List.Elements.{filter_map-append, All-nil, All-cons, All-head, All-tail, All-append, All-contains, Contains-get_or, Contains-append_left, Contains-append_right, Contains-append_cases}
 use Rattle.std.specs.List.{filter_map, cons_option}
 
+-- an item that may be there, before nothing
 cons_option-nil : {Y : Type 0} (o : Option Y) → cons_option o [] ≡ option_to_list o
 cons_option-nil None = refl
 cons_option-nil (Some y) = refl
 
+-- an item that may be there, before others
 cons_option-append : {Y : Type 0} (o : Option Y) (ys : List Y) → cons_option o ys ≡ option_to_list o ++ ys
 cons_option-append None ys = refl
 cons_option-append (Some y) ys = refl
 
+-- a `filter_map` gives a list of one item, or of none, for each item
 pub filter_map_as_flat_map : {X Y : Type 0} (f : X → Option Y) (xs : List X) → filter_map f xs ≡ flat_map (λ x. option_to_list (f x)) xs
 filter_map_as_flat_map f [] = refl
 filter_map_as_flat_map f (x ∷ xs) =
     cons_option-append (f x) (filter_map f xs) ∙ ap (λ ys. option_to_list (f x) ++ ys) (filter_map_as_flat_map f xs)
 
+-- and so does a filter
 pub filter_as_flat_map : {X : Type 0} (p : X → Bool) (xs : List X) → filter p xs ≡ flat_map (λ x. if p x then x ∷ [] else []) xs
 filter_as_flat_map p [] = refl
 filter_as_flat_map p (x ∷ xs) =
@@ -43,6 +47,7 @@ All-filter_map f P Q gives (x ∷ xs) all =
       | Some y ↦ λ h. All-cons Q y (filter_map f xs) h rest
     ] (gives x (All-head P x xs all))
 
+-- the same of a `flat_map`
 pub All-flat_map : {X Y : Type 0} (f : X → List Y) (P : X → Type 0) (Q : Y → Type 0) → ((x : X) → P x → All Q (f x)) → (xs : List X) → All P xs → All Q (flat_map f xs)
 All-flat_map f P Q gives [] all = All-nil Q
 All-flat_map f P Q gives (x ∷ xs) all =
@@ -50,32 +55,41 @@ All-flat_map f P Q gives (x ∷ xs) all =
 
 -- ---- which elements a list has
 
+-- a list has its first item
 pub Contains-head : {X : Type 0} (x : X) (xs : List X) → Contains (x ∷ xs) x
 Contains-head x xs = (0, omega arith, refl)
 
+-- and those of its rest
 pub Contains-tail : {X : Type 0} (x : X) (xs : List X) (y : X) → Contains xs y → Contains (x ∷ xs) y
 Contains-tail x xs y = Contains-append_right (x ∷ []) xs y
 
+-- what stands at k is the first item, or stands in the rest
 at_cons : {X : Type 0} (x : X) (xs : List X) (y : X) (k : ℕ) → k < length (x ∷ xs) → get_or (x ∷ xs) k y ≡ y → (x ≡ y) ⊎ Contains xs y
 at_cons x xs y zero within is = inl is
 at_cons x xs y (suc k) within is = inr (k, omega arith, is)
 
+-- an item is the first, or one of the rest
 pub Contains-cons_cases : {X : Type 0} (x : X) (xs : List X) (y : X) → Contains (x ∷ xs) y → (x ≡ y) ⊎ Contains xs y
 Contains-cons_cases x xs y h = at_cons x xs y h.0 h.1 h.2
 
+-- the empty list has no item
 pub Contains-nil : {X : Type 0} (y : X) → Contains [] y → ⊥
 Contains-nil y h = let within = h.1 in omega arith
 
+-- a list of one item has no other
 pub Contains-single : {X : Type 0} (x y : X) → Contains (x ∷ []) y → x ≡ y
 Contains-single x y h = elim (Contains-cons_cases x [] y h) as (λ _. x ≡ y) [ inl e ↦ e | inr none ↦ absurd (Contains-nil y none) ]
 
+-- an item that is there, in the list of it
 pub Contains-option : {X : Type 0} (o : Option X) (x : X) → o ≡ Some x → Contains (option_to_list o) x
 Contains-option o x is = rw is (Contains-head x [])
 
+-- the list of an item that may be there has no other
 pub option-Contains : {X : Type 0} (o : Option X) (x : X) → Contains (option_to_list o) x → o ≡ Some x
 option-Contains None x h = absurd (Contains-nil x h)
 option-Contains (Some z) x h = ap Some (Contains-single z x h)
 
+-- a `flat_map` has what f gives of an item
 pub Contains-flat_map : {X Y : Type 0} (f : X → List Y) (xs : List X) (x : X) (y : Y) → Contains xs x → Contains (f x) y → Contains (flat_map f xs) y
 Contains-flat_map f [] x y at gives = absurd (Contains-nil x at)
 Contains-flat_map f (z ∷ xs) x y at gives =
@@ -95,6 +109,7 @@ source-flat_map {X} f (z ∷ xs) y h =
 
 -- ---- lists in which nothing stands twice
 
+-- R of each two, where it holds of each two of the same part, and across
 pub AllPairs-append : {X : Type 0} (R : X → X → Type 0) (xs ys : List X) → AllPairs R xs → AllPairs R ys → ((x y : X) → Contains xs x → Contains ys y → R x y) → AllPairs R (xs ++ ys)
 AllPairs-append R xs ys hx hy across i j d lt within =
     let long = length-append xs ys in
@@ -108,12 +123,15 @@ AllPairs-append R xs ys hx hy across i j d lt within =
           ]
     ]
 
+-- R of the first item and each later one
 pub AllPairs-head : {X : Type 0} (R : X → X → Type 0) (x : X) (xs : List X) → AllPairs R (x ∷ xs) → All (R x) xs
 AllPairs-head R x xs h k d within = h 0 (suc k) d (omega arith) (omega arith)
 
+-- R of each two of the rest
 pub AllPairs-tail : {X : Type 0} (R : X → X → Type 0) (x : X) (xs : List X) → AllPairs R (x ∷ xs) → AllPairs R xs
 AllPairs-tail R x xs h i j d lt within = h (suc i) (suc j) d (omega arith) (omega arith)
 
+-- one item makes no pair
 pub AllPairs-option : {X : Type 0} (R : X → X → Type 0) (o : Option X) → AllPairs R (option_to_list o)
 AllPairs-option R None i j d lt within = absurd (omega arith)
 AllPairs-option R (Some x) i j d lt within = absurd (omega arith)
