@@ -1,5 +1,5 @@
 -- What a plain line spells, part by part.
-use Rattle.std.proofs.Common.{◌≡◌, ℕ, Bool, true, false, ◌==◌, ◌↔◌, IsTrue, List, [], ◌∷◌, Option, Some, None, refl, sym}
+use Rattle.std.proofs.Common.{◌≡◌, ℕ, Bool, true, false, ◌==◌, ◌↔◌, IsTrue, List, [], ◌∷◌, None, refl, sym}
 use Rattle.std.specs.Cmp.Lexicographic.{pointwise}
 use Rattle.bm_term.specs.Iri.{reads_iri, IsIriText}
 use Rattle.bm_term.proofs.IriTexts.{reads_iri-exact}

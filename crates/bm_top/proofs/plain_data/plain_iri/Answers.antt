@@ -1,4 +1,4 @@
-use Rattle.std.proofs.Common.{◌≡◌, ◌∙◌, rules}
+use Rattle.std.proofs.Common.{◌∙◌}
 use Rattle.bm_term.proofs.PlainIris.{IsIriText-canonical}
 use Rattle.bm_top.proofs.PlainLines.{reads_iri-tested}
 use Rattle.bm_top.proofs.plain_data.plain_iri.Goals as goal
