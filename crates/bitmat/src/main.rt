@@ -11,6 +11,7 @@ use std::{env, io};
 
 // The statuses where the words could not be had.
 const OUT_OF_MEMORY: u8 = 7;
+
 const NO_WORDS: u8 = 9;
 
 fn main(rt: HostRuntime) -> ExitCode {
