@@ -10,7 +10,7 @@ gate:
 bench: build
 	bench/ask.py ./bitmat
 
-# Only a proved program is built. `rt run` proves it, builds it and runs it on the two files of its folder.
+# Only a proved program is built: `rt run` proves it, builds it and runs it once, on the two files of its folder.
 build:
-	cd crates/bitmat/data && rt run bitmat -- ask d q tsv > ../out/run.log 2>&1 || { cat ../out/run.log; exit 1; }
+	cd crates/bitmat && rt run -- ask data/d data/q tsv
 	cp crates/bitmat/out/bitmat bitmat
