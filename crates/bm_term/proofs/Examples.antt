@@ -2,11 +2,10 @@
 use Rattle.std.proofs.Common.{◌≡◌, ℕ, true, false, refl, Some, List, [], ◌∷◌}
 use Rattle.std.specs.Prelude.{codes}
 use Rattle.bm_term.specs.Classes.{is_scalar, is_irichar, is_pn_chars_base, is_nt_pn_chars_u, is_sparql_pn_chars_u}
-use Rattle.bm_term.specs.declared.term_parts.TermKind.TheVariants.{Iri, Blank, Plain, Tagged, Typed}
 use Rattle.bm_term.specs.declared.triple.Triple.{Triple}
 use Rattle.bm_term.specs.Canonical.{iri, blank, plain, tagged, typed, escape_letter, canonical_chars}
 use Rattle.bm_term.specs.Escapes.{unescaped, escaped_value}
-use Rattle.bm_term.specs.Kept.{Kept, after, after_all, unlimited}
+use Rattle.bm_term.specs.Kept.{after, after_all}
 
 -- the colon is a member in N-Triples alone, the multiplication sign in neither grammar
 colon_in_names : is_nt_pn_chars_u 0x3A ≡ true

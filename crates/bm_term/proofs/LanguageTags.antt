@@ -1,14 +1,14 @@
 -- A language tag is read to its longest end.
-use Rattle.std.proofs.Common.{◌≡◌, ℕ, ◌+◌, ◌<◌, ◌≤◌, Bool, true, false, ◌==◌, if◌then◌else◌, IsTrue, Option, Some, None, List, [], ◌∷◌, ◌++◌, length, refl, ap, ◌∙◌, sym, arith, append_assoc, length-append, eqb}
-use Rattle.std.specs.Option.{option_map, option_map_or}
+use Rattle.std.proofs.Common.{◌≡◌, ℕ, ◌≤◌, Bool, false, Some, None, List, [], ◌∷◌, ◌++◌, length, refl, ap, ◌∙◌, sym, arith, append_assoc, length-append}
+use Rattle.std.specs.Option.{option_map}
 use Rattle.bm_term.specs.Classes.{is_letter, is_alphanumeric, is_lower_letter, is_lower_alphanumeric, is_digit}
 use Rattle.bm_term.specs.Text.{after_char, after_run, after_some, IsRun}
-use Rattle.bm_term.specs.Repetition.{Star, after_pieces, GoesForward}
+use Rattle.bm_term.specs.Repetition.{Star, after_pieces}
 use Rattle.bm_term.specs.Names.{IsSubtag, IsLanguageTag, after_subtag, after_language_tag}
 use Rattle.bm_term.proofs.TextLemmas.{after_char-some, after_some-some, after_some-append, after_run-stop, length-after_run}
 use Rattle.bm_term.proofs.Longest.{Sound, Reaches}
 use Rattle.std.proofs.lemmas.Option.{option_and_then_some, same_Some}
-use Rattle.bm_term.proofs.RepetitionLemmas.{after_pieces-step, PassesPieces, splits}
+use Rattle.bm_term.proofs.RepetitionLemmas.{GoesForward, after_pieces-step, PassesPieces, splits}
 
 -- what a step over a subtag takes
 after_subtag-reads : (p : ℕ → Bool) (text rest : List ℕ) → after_subtag p text ≡ Some rest → (front subtag : List ℕ) × IsSubtag p front subtag × (text ≡ front ++ rest) × (after_run p rest ≡ rest)

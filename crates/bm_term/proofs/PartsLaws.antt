@@ -1,8 +1,8 @@
 -- The parts of bytes, from the reading of their characters.
-use Rattle.std.proofs.Common.{◌≡◌, ◌↔◌, ℕ, Bool, true, ◌&&◌, is_some, IsSome, IsSomeAnd, IfSome, Option, Some, None, List, [], ◌∷◌, ◌++◌, refl, ap, ◌∙◌, sym, subst, append_assoc}
+use Rattle.std.proofs.Common.{◌≡◌, ℕ, Bool, true, ◌&&◌, is_some, IsSome, IfSome, Option, Some, None, List, [], ◌∷◌, ◌++◌, refl, ap, ◌∙◌, sym, subst}
 use Rattle.std.specs.Option.{option_map}
 use Rattle.std.specs.Str.{chars, IsUtf8, is_utf8, encode_utf8_all}
-use Rattle.std.proofs.lemmas.Str.{is_utf8-from_IsUtf8, IsUtf8-from_is_utf8, chars-encodes, encodes-chars, encodes-append, scalars-chars, encode_ascii}
+use Rattle.std.proofs.lemmas.Str.{is_utf8-from_IsUtf8, IsUtf8-from_is_utf8, chars-encodes, encodes-chars, encodes-append, scalars-chars}
 use lib.Utf8.{encode}
 use Rattle.std.proofs.Math.Logic.{∥∥₁_elim}
 use Rattle.std.proofs.lemmas.Bool.{and_parts}
@@ -82,7 +82,7 @@ module _ (bytes : List ℕ) (bytes_utf8 : IsUtf8 bytes) where
         of_term = found_shows p found;
         rebuilt = text.spelled ∙ encode-built (kind_of term) (body_of term) (tail_of term)
             ∙ sym (ap (λ kind. built kind p.body.now p.tail.now) shows.kind ∙ ap (λ body. built (kind_of term) body p.tail.now) shows.body ∙ ap (λ tail. built (kind_of term) (encode_utf8_all (body_of term)) tail) shows.tail);
-        kind = record { term = term; is = text.is; kind_is = sym shows.kind; spelled = text.spelled };
+        kind = record { canonical = text; kind_is = sym shows.kind };
         body = subst (λ kind. IsBodyOf kind p.body.now) (sym shows.kind) (term_is_body_of term p.body.now text.is shows.body);
         body_utf8 = found.utf8.0;
         tail_utf8 = found.utf8.1;

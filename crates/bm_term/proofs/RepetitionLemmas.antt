@@ -1,7 +1,11 @@
 -- Reading a repetition piece by piece.
-use Rattle.std.proofs.Common.{◌≡◌, ℕ, zero, suc, ◌<◌, ◌≤◌, Option, Some, None, List, [], ◌∷◌, ◌++◌, length, refl, ap, ◌∙◌, sym, arith, append_assoc, length-append}
+use Rattle.std.proofs.Common.{◌≡◌, ℕ, zero, suc, ◌<◌, ◌≤◌, Option, Some, None, List, [], ◌∷◌, ◌++◌, length, refl, ap, ◌∙◌, sym, arith, append_assoc}
 use Rattle.std.specs.Option.{option_map_or}
-use Rattle.bm_term.specs.Repetition.{Star, after_up_to, after_pieces, GoesForward}
+use Rattle.bm_term.specs.Repetition.{Star, after_up_to, after_pieces}
+
+-- a step goes forward
+abbrev pub GoesForward : (List ℕ → Option (List ℕ)) → Type 0
+GoesForward step = (text rest : List ℕ) → step text ≡ Some rest → length rest < length text
 
 -- more steps than there are characters change nothing
 after_up_to-enough : (step : List ℕ → Option (List ℕ)) → GoesForward step → (m n : ℕ) (text : List ℕ) → length text ≤ m → length text ≤ n → after_up_to m step text ≡ after_up_to n step text

@@ -1,16 +1,16 @@
 -- The characters of a literal as they are spelled, read one by one.
-use Rattle.std.proofs.Common.{◌≡◌, ℕ, ◌<◌, Bool, true, false, ◌==◌, ◌||◌, ◌&&◌, if◌then◌else◌, ◌⊎◌, inl, inr, is_none, Option, Some, None, List, [], ◌∷◌, ◌++◌, length, refl, ap, ◌∙◌, sym, arith, length-append}
+use Rattle.std.proofs.Common.{◌≡◌, ℕ, ◌<◌, true, false, ◌==◌, ◌&&◌, if◌then◌else◌, ◌⊎◌, inl, inr, is_none, Some, None, List, [], ◌∷◌, ◌++◌, length, refl, ap, ◌∙◌, arith, length-append}
 use Rattle.std.proofs.lemmas.Option.{cond_some}
 use Rattle.std.proofs.lemmas.Bool.{eqb-true}
 use Rattle.std.proofs.lemmas.Bool.Decides.{nat_tests}
 use Rattle.bm_term.specs.Canonical.{escape_letter, spelled_by, spelling, escaped}
 use Rattle.bm_term.specs.Reading.{is_escape_letter, after_escape, after_spelling}
-use Rattle.bm_term.specs.Repetition.{Star, after_pieces, GoesForward}
+use Rattle.bm_term.specs.Repetition.{Star, after_pieces}
 use Rattle.bm_term.proofs.Scalars.{all_scalars-append}
 use lib.Utf8.{scalar, low_scalar}
 use Rattle.std.proofs.Math.Bool.{and-true}
 use Rattle.std.specs.Str.{all_scalars}
-use Rattle.bm_term.proofs.RepetitionLemmas.{after_pieces-step, PassesPieces, splits, passed}
+use Rattle.bm_term.proofs.RepetitionLemmas.{GoesForward, after_pieces-step, PassesPieces, splits, passed}
 
 -- a piece of a literal: a character as it is spelled
 abbrev pub IsSpelling : List ℕ → ℕ → Type 0

@@ -1,6 +1,5 @@
 -- What is kept after lists of triples.
 use Rattle.std.proofs.Common.{◌≡◌, List, [], ◌∷◌, ◌++◌, refl, ap, ◌∙◌, sym, append_assoc, append-nil}
-use Rattle.std.proofs.lemmas.Grind.{common_steps}
 use Rattle.bm_term.specs.declared.triple.Triple.{Triple}
 use Rattle.bm_term.specs.Kept.{Kept, after, after_all, unlimited}
 

@@ -6,12 +6,12 @@ use Rattle.std.specs.Cmp.Derive.{both_true}
 use Rattle.std.specs.List.{list_all}
 use Rattle.std.specs.Option.{option_map}
 use Rattle.std.proofs.lemmas.Option.{same_Some, some_pair_parts}
-use Rattle.std.proofs.lemmas.Str.{encodes-append, encode_ascii, encodes-IsAscii}
+use Rattle.std.proofs.lemmas.Str.{encodes-append, encode_ascii}
 use Rattle.std.proofs.lemmas.List.Concat.{flat_map-append}
 use lib.Utf8.{encode, next}
 use lib.Dec.{ltb}
 use Rattle.bm_term.proofs.Spellings.{raw_is_no_backslash, escaped_is_ascii, letter_is_ascii, escape_letter-into}
-use Rattle.std.specs.Str.{all_scalars, encode_utf8_all}
+use Rattle.std.specs.Str.{encode_utf8_all}
 use Rattle.bm_term.specs.Canonical.{escape_letter, spelled_by, spelling, escaped}
 use Rattle.bm_term.specs.Escapes.{escaped_value, unescaped, first_unescaped, SpellsForm}
 

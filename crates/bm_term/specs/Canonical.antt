@@ -4,7 +4,7 @@ use Rattle.std.specs.List.{list_all, flat_map}
 use Rattle.std.specs.Str.{all_scalars, encode_utf8_all}
 use Rattle.bm_term.specs.declared.term_parts.TermKind.{TermKind}
 use Rattle.bm_term.specs.declared.term_parts.TermKind.TheVariants.{Iri, Blank, Plain, Tagged, Typed}
-use Rattle.bm_term.specs.Marks.{tab, line_feed, carriage_return, quotation_mark, colon, less_than, greater_than, at_sign, backslash, circumflex, low_line}
+use Rattle.bm_term.specs.Marks.{tab, line_feed, carriage_return, quotation_mark, colon, less_than, greater_than, at_sign, backslash, circumflex, low_line, letter_n, letter_r, letter_t}
 use Rattle.bm_term.specs.Classes.{is_lower_letter, is_lower_alphanumeric, is_nt_label_first, is_nt_pn_chars, is_irichar}
 use Rattle.bm_term.specs.Names.{IsDottedName, IsLanguageTag}
 
@@ -42,9 +42,9 @@ unfoldable pub escape_letter : ℕ → Option ℕ
 escape_letter c =
     if c == quotation_mark then Some quotation_mark
     else (if c == backslash then Some backslash
-    else (if c == line_feed then Some 0x6E
-    else (if c == carriage_return then Some 0x72
-    else (if c == tab then Some 0x74 else None))))
+    else (if c == line_feed then Some letter_n
+    else (if c == carriage_return then Some letter_r
+    else (if c == tab then Some letter_t else None))))
 
 abbrev pub spelled_by : ℕ → Option ℕ → List ℕ
 spelled_by c None = c ∷ []
@@ -103,7 +103,5 @@ pub record IsCanonical (text : List ℕ) : Type 0 where
 
 -- and that term is of this kind
 pub record IsTextOf (kind : TermKind) (text : List ℕ) : Type 0 where
-  pub term : RdfTerm
-  pub is : IsTerm term
-  pub kind_is : kind_of term ≡ kind
-  pub spelled : text ≡ canonical_text term
+  pub canonical : IsCanonical text
+  pub kind_is : kind_of canonical.term ≡ kind

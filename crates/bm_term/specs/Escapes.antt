@@ -5,17 +5,17 @@ use Rattle.std.specs.Str.{all_scalars, encode_utf8_all}
 use Rattle.bm_term.specs.declared.term_parts.TermKind.{TermKind}
 use Rattle.bm_term.specs.declared.term_parts.TermKind.TheVariants.{Iri, Blank, Plain, Tagged, Typed}
 use Rattle.bm_term.specs.Canonical.{escaped}
-use Rattle.bm_term.specs.Marks.{tab, line_feed, carriage_return, quotation_mark, backslash}
+use Rattle.bm_term.specs.Marks.{backspace, tab, line_feed, form_feed, carriage_return, quotation_mark, apostrophe, backslash, letter_b, letter_f, letter_n, letter_r, letter_t}
 
 -- the character for which a letter stands after a backslash
 unfoldable pub echar_value : ℕ → Option ℕ
 echar_value letter =
-    if letter == 0x74 then Some tab
-    else (if letter == 0x62 then Some 0x8
-    else (if letter == 0x6E then Some line_feed
-    else (if letter == 0x72 then Some carriage_return
-    else (if letter == 0x66 then Some 0xC
-    else (if letter == quotation_mark || letter == 0x27 || letter == backslash then Some letter else None)))))
+    if letter == letter_t then Some tab
+    else (if letter == letter_b then Some backspace
+    else (if letter == letter_n then Some line_feed
+    else (if letter == letter_r then Some carriage_return
+    else (if letter == letter_f then Some form_feed
+    else (if letter == quotation_mark || letter == apostrophe || letter == backslash then Some letter else None)))))
 
 -- the body of a literal spells this lexical form
 pub record SpellsForm (body lexical : List ℕ) : Type 0 where
@@ -37,9 +37,9 @@ IsBodyOf Blank body = Unit {0}
 -- the character for which a letter stands in a canonical literal, after a backslash
 unfoldable pub escaped_value : ℕ → ℕ
 escaped_value letter =
-    if letter == 0x6E then line_feed
-    else (if letter == 0x72 then carriage_return
-    else (if letter == 0x74 then tab else letter))
+    if letter == letter_n then line_feed
+    else (if letter == letter_r then carriage_return
+    else (if letter == letter_t then tab else letter))
 
 -- a text with each backslash and the letter after it replaced by what they stand for
 unfoldable pub unescaped : List ℕ → List ℕ

@@ -1,12 +1,8 @@
 -- IRIs as N-Triples writes them. N-Triples 1.1, section 7, rule IRIREF; here only characters of ASCII.
-use Rattle.std.specs.Prelude.{◌≡◌, ℕ, ◌++◌, Bool, false, ◌&&◌, ◌||◌, ◌==◌, not, nat_lt, if◌then◌else◌, IsTrue, List, [], ◌∷◌, length}
+use Rattle.std.specs.Prelude.{◌≡◌, ℕ, ◌++◌, Bool, false, ◌&&◌, ◌==◌, not, nat_lt, if◌then◌else◌, IsTrue, List, [], ◌∷◌, length}
 use Rattle.std.specs.List.{list_all}
+use Rattle.bm_term.specs.Classes.{is_excluded_mark}
 use Rattle.bm_term.specs.declared.iri.TheConstants.{LESS_THAN, GREATER_THAN}
-
--- the marks that may not stand raw in an IRI: < > " { } | ^ ` and the backslash
-abbrev pub is_excluded_mark : ℕ → Bool
-is_excluded_mark c =
-    c == 60 || c == 62 || c == 34 || c == 123 || c == 125 || c == 124 || c == 94 || c == 96 || c == 92
 
 -- a character of ASCII that may stand in an IRI: above the space, and none of these marks
 unfoldable pub is_iri_char : ℕ → Bool

@@ -4,7 +4,7 @@ use Rattle.std.specs.Prelude.{◌≡◌, ℕ, Bool, ◌||◌, ◌==◌, ◌⊎�
 use Rattle.std.specs.List.{list_all}
 use Rattle.std.specs.Option.{option_map}
 use Rattle.bm_term.specs.Marks.{full_stop, hyphen}
-use Rattle.bm_term.specs.Text.{after_char, after_run, after_some, IsRun}
+use Rattle.bm_term.specs.Text.{after_char, after_some, IsRun}
 use Rattle.bm_term.specs.Repetition.{Star, after_pieces}
 
 -- inner | '.'

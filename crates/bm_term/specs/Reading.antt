@@ -1,11 +1,11 @@
 -- How the parts of a text are read from its front. The laws that tie this to canonical texts are in proofs/.
-use Rattle.std.specs.Prelude.{◌≡◌, ℕ, Bool, ◌||◌, ◌==◌, nat_le, if◌then◌else◌, is_none, Option, Some, None, option_and_then, bytes_eq, List, [], ◌∷◌, length}
+use Rattle.std.specs.Prelude.{ℕ, Bool, ◌||◌, ◌==◌, nat_le, if◌then◌else◌, is_none, Option, Some, None, option_and_then, bytes_eq, List, [], ◌∷◌, length}
 use Rattle.std.specs.Option.{option_map}
 use Rattle.std.specs.Str.{chars}
 use Rattle.bm_term.specs.declared.term_parts.TermKind.{TermKind}
 use Rattle.bm_term.specs.declared.term_parts.TermKind.TheVariants.{Iri, Blank, Plain, Tagged, Typed}
 use Rattle.bm_term.specs.declared.term_parts.Parts.{Parts}
-use Rattle.bm_term.specs.Marks.{quotation_mark, colon, less_than, greater_than, at_sign, backslash, circumflex, low_line}
+use Rattle.bm_term.specs.Marks.{quotation_mark, colon, less_than, greater_than, at_sign, backslash, circumflex, low_line, letter_n, letter_r, letter_t}
 use Rattle.bm_term.specs.Classes.{is_lower_letter, is_lower_alphanumeric, is_nt_label_first, is_nt_pn_chars, is_irichar}
 use Rattle.bm_term.specs.Text.{after_char, after_run, before}
 use Rattle.bm_term.specs.Repetition.{after_pieces}
@@ -22,7 +22,7 @@ at_end rest value = if length rest == 0 then Some value else None
 
 -- the letters that may stand after a backslash: " \ n r t
 unfoldable pub is_escape_letter : ℕ → Bool
-is_escape_letter c = c == quotation_mark || c == backslash || c == 0x6E || c == 0x72 || c == 0x74
+is_escape_letter c = c == quotation_mark || c == backslash || c == letter_n || c == letter_r || c == letter_t
 
 -- what follows a letter that may stand after a backslash
 abbrev pub after_escape : List ℕ → Option (List ℕ)

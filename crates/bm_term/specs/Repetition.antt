@@ -1,5 +1,5 @@
 -- Repetitions in a grammar: pieces in a row, each of which stands for a value.
-use Rattle.std.specs.Prelude.{◌≡◌, ℕ, zero, suc, ◌<◌, Option, Some, List, [], ◌∷◌, ◌++◌, length}
+use Rattle.std.specs.Prelude.{◌≡◌, ℕ, zero, suc, Option, List, [], ◌∷◌, ◌++◌, length}
 use Rattle.std.specs.Option.{option_map_or}
 
 -- the text is pieces of the rule P in a row, and these are their values
@@ -15,7 +15,3 @@ after_up_to (suc n) step text = option_map_or (after_up_to n step) (step text) t
 -- what follows all pieces that a text begins with
 unfoldable pub after_pieces : (List ℕ → Option (List ℕ)) → List ℕ → List ℕ
 after_pieces step text = after_up_to (length text) step text
-
--- a step goes forward
-abbrev pub GoesForward : (List ℕ → Option (List ℕ)) → Type 0
-GoesForward step = (text rest : List ℕ) → step text ≡ Some rest → length rest < length text

@@ -53,6 +53,13 @@ impl TripleList {
     {
         self.triples.as_slice()
     }
+
+    /// The triples, given up.
+    pub fn into_vec(self) -> Vec<Triple>
+        ensures { result.items ≡ self }
+    {
+        self.triples
+    }
 }
 
 impl Taker for TripleList {

@@ -6,6 +6,7 @@ ghost use Rattle.std.specs.Hash as fed;
 ghost use Rattle.std.specs.Cmp.Lexicographic.{pointwise, slice_cmp};
 ghost use Rattle.std.specs.Ordering.{nat_cmp, as_partial_cmp};
 ghost use Rattle.bm_term.specs.TermRef.{text_of};
+ghost use Rattle.bm_term.specs.Canonical.{IsCanonical};
 
 use crate::TermRef;
 use std::alloc::{AllocError, Global};
@@ -38,6 +39,14 @@ impl Term {
         Ok(Term {
             text: term.bytes().to_vec(alloc)?,
         })
+    }
+
+    /// The term with a text that is known to be canonical. It is not looked into.
+    pub fn from_canonical(text: Vec<u8>) -> Term
+        requires { ∥ IsCanonical text.items ∥₁ }
+        ensures { result ≡ text.items }
+    {
+        Term { text }
     }
 
     /// The term, lent.

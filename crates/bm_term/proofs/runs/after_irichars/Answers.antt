@@ -1,5 +1,3 @@
-use Rattle.std.proofs.Common.{◌∙◌, ap}
-use Rattle.std.specs.Str.{chars}
 use Rattle.bm_term.proofs.ByteRuns.{after_iri_bytes-ends}
 use Rattle.bm_term.proofs.runs.after_irichars.Goals as goal
 

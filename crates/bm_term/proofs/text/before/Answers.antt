@@ -1,4 +1,4 @@
-use Rattle.std.proofs.Common.{length, arith, length-append}
+use Rattle.std.proofs.Common.{arith, length-append}
 use Rattle.bm_term.proofs.TextLemmas.{bytes_before_rest, cut_before_rest, chars-before}
 use Rattle.bm_term.proofs.text.before.Goals as goal
 
