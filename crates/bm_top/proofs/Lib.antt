@@ -1,6 +1,7 @@
 pub mod Answered
 pub mod Deciding
 pub mod Distinct
+pub mod Examples
 pub mod Lists
 pub mod Parts
 pub mod LinePieces
