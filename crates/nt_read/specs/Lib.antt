@@ -1,0 +1,6 @@
+pub mod Escapes
+pub mod Line
+pub mod LineReading
+pub mod Pieces
+pub mod TerminalReading
+pub mod Terminals

