@@ -4,6 +4,14 @@ use Rattle.std.specs.Option.{option_map_or}
 use Rattle.bm_term.specs.Repetition.{Star}
 use Rattle.nt_read.specs.Pieces.{Step, with_first, pieces_up_to, pieces, values, after_values, GoesForward}
 
+-- what a step takes is a piece of the rule
+abbrev pub PassesPieces : Step → (List ℕ → ℕ → Type 0) → Type 0
+PassesPieces step P = (text rest : List ℕ) (c : ℕ) → step text ≡ Some (c, rest) → (front : List ℕ) × P front c × (text ≡ front ++ rest)
+
+-- a step takes each piece of the rule, whatever follows it
+abbrev pub PassesOver : Step → (List ℕ → ℕ → Type 0) → Type 0
+PassesOver step P = (front rest : List ℕ) (c : ℕ) → P front c → step (front ++ rest) ≡ Some (c, rest)
+
 module _ (step : Step) (forward : GoesForward step) where
   -- more steps than there are characters change nothing
   pieces_up_to-enough : (m n : ℕ) (text : List ℕ) → length text ≤ m → length text ≤ n → pieces_up_to m step text ≡ pieces_up_to n step text
@@ -53,10 +61,6 @@ module _ (step : Step) (forward : GoesForward step) where
   after_values-none text e = ap (λ (found : List ℕ × List ℕ). found.1) (pieces-none text e)
 
   module _ (P : List ℕ → ℕ → Type 0) where
-    -- a step passes over a piece
-    abbrev pub PassesPieces : Type 0
-    PassesPieces = (text rest : List ℕ) (c : ℕ) → step text ≡ Some (c, rest) → (front : List ℕ) × P front c × (text ≡ front ++ rest)
-
     -- a text is pieces, and what follows them
     abbrev pub SplitsInPieces : List ℕ → Type 0
     SplitsInPieces text = (front : List ℕ) × Star P front (values step text) × (text ≡ front ++ after_values step text)
@@ -64,7 +68,7 @@ module _ (step : Step) (forward : GoesForward step) where
     splits-none : (text : List ℕ) → step text ≡ None → SplitsInPieces text
     splits-none text e = rw (values-none text e, after_values-none text e) ([], refl, refl)
 
-    splits-more : (text rest : List ℕ) (c : ℕ) → PassesPieces → step text ≡ Some (c, rest) → SplitsInPieces rest → SplitsInPieces text
+    splits-more : (text rest : List ℕ) (c : ℕ) → PassesPieces step P → step text ≡ Some (c, rest) → SplitsInPieces rest → SplitsInPieces text
     splits-more text rest c passes e (others, star, splits) =
         let (front, piece, split) = passes text rest c e in
         rw (values-more text rest c e, after_values-more text rest c e) (
@@ -73,7 +77,7 @@ module _ (step : Step) (forward : GoesForward step) where
           split ∙ ap (λ xs. front ++ xs) splits ∙ sym (append_assoc front others (after_values step rest)),
         )
 
-    splits_up_to : PassesPieces → (n : ℕ) (text : List ℕ) → length text ≤ n → SplitsInPieces text
+    splits_up_to : PassesPieces step P → (n : ℕ) (text : List ℕ) → length text ≤ n → SplitsInPieces text
     splits_up_to passes zero text small =
         elim (step text) as (λ r. step text ≡ r → SplitsInPieces text) [
           | None ↦ λ e. splits-none text e
@@ -87,21 +91,17 @@ module _ (step : Step) (forward : GoesForward step) where
               splits-more text first.1 first.0 passes e (splits_up_to passes n first.1 (omega arith))
         ] refl
 
-    pub splits : PassesPieces → (text : List ℕ) → SplitsInPieces text
+    pub splits : PassesPieces step P → (text : List ℕ) → SplitsInPieces text
     splits passes text = splits_up_to passes (length text) text (omega arith)
 
-    -- a piece is passed over, whatever follows it
-    abbrev pub IsPassed : Type 0
-    IsPassed = (front rest : List ℕ) (c : ℕ) → P front c → step (front ++ rest) ≡ Some (c, rest)
-
-    -- so are pieces in a row
-    pub passed : IsPassed → (vs text rest : List ℕ) → Star P text vs → pieces step (text ++ rest) ≡ (vs ++ values step rest, after_values step rest)
+    -- pieces in a row are passed over, where each is
+    pub passed : PassesOver step P → (vs text rest : List ℕ) → Star P text vs → pieces step (text ++ rest) ≡ (vs ++ values step rest, after_values step rest)
     passed passes [] text rest star = rw star refl
     passed passes (v ∷ vs) text rest (front, others, piece, star, split) =
         let made : step (text ++ rest) ≡ Some (v, others ++ rest) = rw (split, append_assoc front others rest) (passes front (others ++ rest) v piece) in
         pieces-more (text ++ rest) (others ++ rest) v made ∙ ap (with_first v) (passed passes vs others rest star)
 
     -- up to where no piece stands
-    pub passed_to_end : IsPassed → (vs text rest : List ℕ) → Star P text vs → step rest ≡ None → pieces step (text ++ rest) ≡ (vs, rest)
+    pub passed_to_end : PassesOver step P → (vs text rest : List ℕ) → Star P text vs → step rest ≡ None → pieces step (text ++ rest) ≡ (vs, rest)
     passed_to_end passes vs text rest star e =
         passed passes vs text rest star ∙ rw (values-none rest e, after_values-none rest e, append-nil vs) refl
