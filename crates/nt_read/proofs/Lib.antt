@@ -1,3 +1,5 @@
 pub mod PieceLaws
 pub mod EscapeLaws
 pub mod CharacterLaws
+pub mod TerminalLaws
+pub mod TerminalRules
