@@ -3,3 +3,6 @@ pub mod EscapeLaws
 pub mod CharacterLaws
 pub mod TerminalLaws
 pub mod TerminalRules
+pub mod TermLaws
+pub mod PlaceLaws
+pub mod LineLaws

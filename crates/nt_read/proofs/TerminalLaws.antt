@@ -16,6 +16,9 @@ later_cut (x ∷ a) b (y ∷ c) d same less =
     let (more, front, rest) = later_cut a b c d (cc) less in
     (more, ap (λ z. z ∷ c) (sym first) ∙ ap (λ xs. x ∷ xs) front, rest)
 
+same_pair : {V : Type 0} (v w : V) (xs ys : List ℕ) → v ≡ w → xs ≡ ys → ◌≡◌ {A = Option (V × List ℕ)} (Some (v, xs)) (Some (w, ys))
+same_pair v w xs ys value rest = cc
+
 module _ {V : Type 0} (Rule : List ℕ → V → Type 0) (read : List ℕ → Option (V × List ℕ)) where
   -- what is read is of the rule; where a text of the rule stands in front, no less is read; a text of the rule has one
   -- value; and no text of the rule begins with white space
@@ -70,7 +73,8 @@ module _ {V : Type 0} (Rule : List ℕ → V → Type 0) (read : List ℕ → Op
       let same : t.text ≡ front = sym (front_more ∙ ap (λ xs. t.text ++ xs) nothing ∙ append-nil t.text) in
       let value : w ≡ v = reads.one front w v is (subst (λ xs. Rule xs v) same t.is) in
       let ends : end ≡ rest = sym (rest_more ∙ ap (λ xs. xs ++ end) nothing) in
-      ap read start ∙ found ∙ ap (λ x. Some (x, end)) value ∙ ap (λ xs. Some (v, xs)) ends
+      let read_is : read (after_run is_blank text) ≡ Some (w, end) = ap read start ∙ found in
+      read_is ∙ same_pair w v end rest value ends
 
   -- where a text of the rule is read, whatever follows it
   pub reads_exactly :

@@ -55,17 +55,17 @@ read_datatype lexical text = do
   mark ← after_char circumflex text
   option_map (λ found. (literal_of lexical found.0, found.1)) (read_iri_ref (after_blanks mark))
 
--- behind it and white space: ('^^' IRIREF | LANGTAG)?
-unfoldable pub read_tail : List ℕ → ReadTerm
-read_tail lexical [] = Some (plain lexical, [])
-read_tail lexical (c ∷ cs) =
+-- behind it: ('^^' IRIREF | LANGTAG)?, where start is the text behind white space
+unfoldable pub read_tail : List ℕ → List ℕ → ReadTerm
+read_tail lexical text [] = Some (plain lexical, text)
+read_tail lexical text (c ∷ cs) =
     if c == at_sign then read_tag lexical (c ∷ cs)
-    else (if c == circumflex then read_datatype lexical cs else Some (plain lexical, c ∷ cs))
+    else (if c == circumflex then read_datatype lexical cs else Some (plain lexical, text))
 
 unfoldable pub read_literal : ReadTerm
 read_literal text = do
   string ← read_string text
-  read_tail string.0 (after_blanks string.1)
+  read_tail string.0 string.1 (after_blanks string.1)
 
 unfoldable pub read_object : ReadTerm
 read_object text = let start = after_blanks text in option_or (read_node start) (read_literal start)
