@@ -1,8 +1,8 @@
 -- The characters of an IRIREF and of a STRING_LITERAL_QUOTE: what is read is one, raw or escaped, and each is read.
-use Rattle.std.proofs.Common.{◌≡◌, ℕ, ◌+◌, ◌<◌, Bool, true, false, ◌==◌, ◌&&◌, ◌||◌, not, if◌then◌else◌, ◌⊎◌, inl, inr, Option, Some, None, List, [], ◌∷◌, ◌++◌, length, refl, ap, subst, ◌∙◌, sym, arith, append_assoc, length-append}
-use Rattle.std.proofs.lemmas.Bool.{and_parts, eqb-true}
+use Rattle.std.proofs.Common.{◌≡◌, ℕ, ◌<◌, true, false, ◌==◌, if◌then◌else◌, ◌⊎◌, inl, inr, Option, Some, None, List, [], ◌∷◌, ◌++◌, length, refl, ap, subst, ◌∙◌, sym, arith, length-append}
+use Rattle.std.proofs.lemmas.Bool.{eqb-true}
 use Rattle.std.proofs.lemmas.Bool.Decides.{nat_tests}
-use Rattle.std.proofs.lemmas.Option.{cond_some, option_and_then_some, same_Some, some_pair_parts}
+use Rattle.std.proofs.lemmas.Option.{cond_some, option_and_then_some, some_pair_parts}
 use Rattle.std.specs.Option.{option_map, option_or}
 use Rattle.bm_term.specs.Classes.{is_scalar, is_irichar}
 use Rattle.bm_term.specs.Escapes.{echar_value}
@@ -11,7 +11,7 @@ use Rattle.nt_read.specs.Escapes.{IsEchar, IsUchar, uchar_length}
 use Rattle.nt_read.specs.Pieces.{GoesForward}
 use Rattle.nt_read.specs.Terminals.{IsIriPiece, IsStringPiece, is_string_char}
 use Rattle.nt_read.specs.TerminalReading.{read_uchar, escaped_irichar, iri_piece, read_escape, string_piece}
-use Rattle.nt_read.proofs.PieceLaws.{PassesPieces, PassesOver, splits, passed_to_end}
+use Rattle.nt_read.proofs.PieceLaws.{PassesPieces, PassesOver}
 use Rattle.nt_read.proofs.EscapeLaws.{read_uchar-some, read_uchar-again}
 
 -- a text has a character at least, where it is a piece of some rule

@@ -1,5 +1,5 @@
 -- Reading a repetition piece by piece, with what the pieces stand for.
-use Rattle.std.proofs.Common.{◌≡◌, ℕ, zero, suc, ◌<◌, ◌≤◌, Option, Some, None, List, [], ◌∷◌, ◌++◌, length, refl, ap, ◌∙◌, sym, arith, append_assoc, append-nil, length-append}
+use Rattle.std.proofs.Common.{◌≡◌, ℕ, zero, suc, ◌≤◌, Some, None, List, [], ◌∷◌, ◌++◌, length, refl, ap, ◌∙◌, sym, arith, append_assoc, append-nil}
 use Rattle.std.specs.Option.{option_map_or}
 use Rattle.bm_term.specs.Repetition.{Star}
 use Rattle.nt_read.specs.Pieces.{Step, with_first, pieces_up_to, pieces, values, after_values, GoesForward}

@@ -1,20 +1,19 @@
 -- The subject, the predicate, the object and the end of a line: what is read is spelled, and what is spelled is read.
-use Rattle.std.proofs.Common.{◌≡◌, ◌≢◌, ℕ, Bool, true, false, ◌==◌, ◌⊎◌, inl, inr, if◌then◌else◌, Option, Some, None, List, [], ◌∷◌, ◌++◌, refl, ap, subst, ◌∙◌, sym}
+use Rattle.std.proofs.Common.{◌≡◌, ◌≢◌, ℕ, true, false, ◌==◌, ◌⊎◌, inl, inr, if◌then◌else◌, Option, Some, None, List, [], ◌∷◌, ◌++◌, refl, ap, subst, ◌∙◌, sym}
 use Rattle.std.specs.Prelude.{bytes_eq}
 use Rattle.std.specs.Option.{option_map, option_or}
-use Rattle.std.specs.List.{list_all}
 use Rattle.std.proofs.lemmas.Bool.{eqb-true}
 use Rattle.std.proofs.lemmas.Option.{option_and_then_some, some_pair_parts}
 use Rattle.std.proofs.lemmas.Slice.Eq.{bytes_eq-Decides}
 use Rattle.bm_term.specs.Marks.{quotation_mark, full_stop, at_sign, circumflex, low_line, colon, less_than, number_sign}
 use Rattle.bm_term.specs.Canonical.{RdfTerm, iri, blank, plain, tagged, typed, xsd_string}
-use Rattle.bm_term.specs.Text.{after_char, after_run}
-use Rattle.bm_term.proofs.TextLemmas.{after_char-some, after_run-split, after_run-append, after_run-stop, after_run-nil}
-use Rattle.nt_read.specs.Terminals.{IsIriRef, IsBlankNodeLabel, IsString, IsLangtag, IsMark, Terminal, is_blank, AreBlanks}
+use Rattle.bm_term.specs.Text.{after_char}
+use Rattle.bm_term.proofs.TextLemmas.{after_run-split, after_run-append, after_run-stop, after_run-nil}
+use Rattle.nt_read.specs.Terminals.{IsIriRef, IsBlankNodeLabel, IsString, IsLangtag, IsMark, Terminal, is_blank}
 use Rattle.nt_read.specs.Line.{IsSubject, IsPredicate, IsObject, IsTagged, IsTyped, IsCommentOrNothing, IsEnd}
-use Rattle.nt_read.specs.TerminalReading.{◌>>=◌, read_iri_ref, read_string, read_langtag, read_label}
+use Rattle.nt_read.specs.TerminalReading.{read_iri_ref, read_string, read_langtag, read_label}
 use Rattle.nt_read.specs.LineReading.{after_blanks, read_iri, read_blank, read_node, read_subject, read_predicate, literal_of, read_tag, read_datatype, read_tail, read_literal, read_object, is_comment_or_nothing, is_end}
-use Rattle.nt_read.proofs.TerminalLaws.{Reads, terminal_found, terminal_read}
+use Rattle.nt_read.proofs.TerminalLaws.{terminal_found, terminal_read}
 use Rattle.nt_read.proofs.TerminalRules.{iri_ref-reads, string-reads, langtag-reads, label-reads, read_dot, dot-reads, read_datatype_mark, datatype_mark-reads}
 
 -- what a terminal is made into

@@ -1,8 +1,7 @@
 -- A terminal behind white space is what is read there, from a few facts about its reading.
-use Rattle.std.proofs.Common.{◌≡◌, ℕ, ◌≤◌, Bool, true, false, Option, Some, None, List, [], ◌∷◌, ◌++◌, length, refl, ap, subst, ◌∙◌, sym, arith, append_assoc, append-nil, length-append}
+use Rattle.std.proofs.Common.{◌≡◌, ℕ, ◌≤◌, true, false, Option, Some, None, List, [], ◌∷◌, ◌++◌, length, refl, ap, subst, ◌∙◌, sym, arith, append_assoc, append-nil, length-append}
 use Rattle.std.proofs.lemmas.List.{nil_from_length}
-use Rattle.std.proofs.lemmas.Option.{same_Some, some_pair_parts}
-use Rattle.std.specs.List.{list_all}
+use Rattle.std.proofs.lemmas.Option.{some_pair_parts}
 use Rattle.bm_term.specs.Text.{after_run, IsLongest}
 use Rattle.bm_term.proofs.TextLemmas.{after_run-split, after_run-append, after_run-stop}
 use Rattle.nt_read.specs.Terminals.{is_blank, HasValue, Terminal}

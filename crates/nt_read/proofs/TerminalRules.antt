@@ -1,14 +1,13 @@
 -- How each terminal of a line is read.
-use Rattle.std.proofs.Common.{◌≡◌, ℕ, ◌≤◌, Bool, true, false, ◌==◌, if◌then◌else◌, Option, Some, None, List, [], ◌∷◌, ◌++◌, map, length, refl, ap, subst, ◌∙◌, sym, arith, append_assoc}
+use Rattle.std.proofs.Common.{◌≡◌, ℕ, ◌≤◌, true, false, ◌==◌, if◌then◌else◌, Option, Some, None, List, [], ◌∷◌, ◌++◌, map, length, refl, ap, subst, ◌∙◌, sym, append_assoc}
 use Rattle.std.proofs.lemmas.Bool.{eqb-true}
-use Rattle.std.proofs.lemmas.Bool.Decides.{nat_tests}
 use Rattle.std.proofs.lemmas.Option.{option_and_then_some, some_pair_parts}
 use Rattle.std.specs.Char.{to_ascii_lowercase}
 use Rattle.std.specs.Option.{option_map}
 use Rattle.bm_term.specs.Classes.{is_letter, is_alphanumeric, is_nt_label_first, is_nt_pn_chars}
 use Rattle.bm_term.specs.Canonical.{IsLabel}
 use Rattle.bm_term.specs.Marks.{quotation_mark, colon, less_than, greater_than, at_sign, full_stop, circumflex, low_line}
-use Rattle.bm_term.specs.Names.{IsDottedName, IsLanguageTag, after_dotted_name, after_language_tag}
+use Rattle.bm_term.specs.Names.{after_dotted_name, after_language_tag}
 use Rattle.bm_term.specs.Repetition.{Star}
 use Rattle.bm_term.specs.Text.{after_char, before}
 use Rattle.bm_term.proofs.DottedNames.{after_dotted_name-sound, after_dotted_name-reaches}
@@ -43,8 +42,8 @@ iri_ref-sound text rest iri e =
       less_than ∷ (front ++ greater_than ∷ []),
       (front, rw (← same) star, refl),
       after_char-some less_than text body opens
-      ∙ ap (λ xs. less_than ∷ xs) (split ∙ ap (λ xs. front ++ xs) (after_char-some greater_than (after_values iri_piece body) end closes ∙ ap (λ xs. greater_than ∷ xs) ends))
-      ∙ sym (enclosed less_than greater_than front rest),
+          ∙ ap (λ xs. less_than ∷ xs) (split ∙ ap (λ xs. front ++ xs) (after_char-some greater_than (after_values iri_piece body) end closes ∙ ap (λ xs. greater_than ∷ xs) ends))
+          ∙ sym (enclosed less_than greater_than front rest),
     )))
 
 iri_ref-closed : (body rest iri : List ℕ) → Star IsIriPiece body iri → read_iri_ref (less_than ∷ (body ++ greater_than ∷ rest)) ≡ Some (iri, rest)
@@ -81,8 +80,8 @@ string-sound text rest lexical e =
       quotation_mark ∷ (front ++ quotation_mark ∷ []),
       (front, rw (← same) star, refl),
       after_char-some quotation_mark text body opens
-      ∙ ap (λ xs. quotation_mark ∷ xs) (split ∙ ap (λ xs. front ++ xs) (after_char-some quotation_mark (after_values string_piece body) end closes ∙ ap (λ xs. quotation_mark ∷ xs) ends))
-      ∙ sym (enclosed quotation_mark quotation_mark front rest),
+          ∙ ap (λ xs. quotation_mark ∷ xs) (split ∙ ap (λ xs. front ++ xs) (after_char-some quotation_mark (after_values string_piece body) end closes ∙ ap (λ xs. quotation_mark ∷ xs) ends))
+          ∙ sym (enclosed quotation_mark quotation_mark front rest),
     )))
 
 string-closed : (body rest lexical : List ℕ) → Star IsStringPiece body lexical → read_string (quotation_mark ∷ (body ++ quotation_mark ∷ rest)) ≡ Some (lexical, rest)
@@ -160,7 +159,7 @@ label-sound text rest label e =
       low_line ∷ colon ∷ label,
       (subst IsLabel cut is, refl),
       after_char-some low_line text mark mark_is
-      ∙ ap (λ xs. low_line ∷ xs) (after_char-some colon mark written colon_is ∙ ap (λ xs. colon ∷ xs) (split ∙ ap (λ xs. xs ++ end) cut ∙ ap (λ xs. label ++ xs) ends)),
+          ∙ ap (λ xs. low_line ∷ xs) (after_char-some colon mark written colon_is ∙ ap (λ xs. colon ∷ xs) (split ∙ ap (λ xs. xs ++ end) cut ∙ ap (λ xs. label ++ xs) ends)),
     ))))
 
 label-found : (label more end : List ℕ) → after_dotted_name is_nt_label_first is_nt_pn_chars (label ++ more) ≡ Some end → read_label (low_line ∷ colon ∷ (label ++ more)) ≡ Some (before (label ++ more) end, end)
