@@ -1,6 +1,8 @@
 -- What is read behind a backslash is an escape, and each escape is read.
 use Rattle.std.proofs.Common.{◌≡◌, ℕ, ◌+◌, ◌*◌, true, false, ◌==◌, if◌then◌else◌, Option, Some, None, List, [], ◌∷◌, ◌++◌, length, refl, ap, ◌∙◌, sym, arith, append_assoc, length-append}
 use Rattle.std.proofs.lemmas.Bool.{and_parts}
+use Rattle.std.proofs.lemmas.Bool.Decides.{nat_tests}
+use lib.Utf8.{scalar}
 use Rattle.std.proofs.lemmas.Option.{cond_some, option_and_then_some, same_Some, some_pair_parts}
 use Rattle.std.proofs.lemmas.List.Folds.{list_all-append}
 use Rattle.std.specs.Cmp.Derive.{both_true}
@@ -149,3 +151,22 @@ unfolding read_uchar
 read_uchar-again text rest c is =
     let scalar : is_scalar (hex_number is.digits) ≡ true = ap is_scalar (sym is.number) ∙ is.scalar in
     rw (uchar_number-again is.letter is.digits rest is.count is.hex, scalar, is.number) refl
+
+-- the test of the grammars is that of the library
+pub is_scalar-scalar : (c : ℕ) → is_scalar c ≡ scalar c
+unfolding is_scalar
+is_scalar-scalar c = grind (arith, nat_tests)
+
+-- a number that is no character is refused
+pub scalar_is_read : (letter number c : ℕ) (text rest : List ℕ) → Some (number, rest) ≡ uchar_number letter text → scalar number ≡ true → c ≡ number → ◌≡◌ {A = Option (ℕ × List ℕ)} (Some (c, rest)) (read_uchar letter text)
+unfolding read_uchar
+scalar_is_read letter number c text rest found is same = rw (← found, is_scalar-scalar number, is, same) refl
+
+pub no_scalar_is_refused : (letter number : ℕ) (text rest : List ℕ) → Some (number, rest) ≡ uchar_number letter text → (scalar number ≡ true → ⊥) → None ≡ read_uchar letter text
+unfolding read_uchar
+no_scalar_is_refused letter number text rest found no_scalar =
+    rw (← found, is_scalar-scalar number)
+    (elim (scalar number) as (λ b. (b ≡ true → ⊥) → ◌≡◌ {A = Option (ℕ × List ℕ)} None (if b then Some (number, rest) else None)) [
+      | true ↦ λ h. absurd (h refl)
+      | false ↦ λ h. refl
+    ] no_scalar)

@@ -13,12 +13,8 @@ use Rattle.bm_term.specs.Repetition.{Star}
 use Rattle.bm_term.specs.Canonical.{RdfTerm, iri, blank, plain, tagged, typed, IsTerm, IsLowerTag}
 use Rattle.bm_term.proofs.LowerTags.{IsLowerTag-lowercase}
 use Rattle.nt_read.specs.Terminals.{IsIriPiece, IsIriRef, IsStringPiece, IsString, IsLangtag, is_string_char}
+use Rattle.nt_read.proofs.EscapeLaws.{is_scalar-scalar}
 use Rattle.nt_read.specs.Line.{IsSubject, IsPredicate, IsObject}
-
--- the test of the grammars is that of the library
-pub is_scalar-scalar : (c : ℕ) → is_scalar c ≡ scalar c
-unfolding is_scalar
-is_scalar-scalar c = grind (arith, nat_tests)
 
 string_char_is_scalar : (c : ℕ) → is_string_char c ≡ true → scalar c ≡ true
 unfolding is_string_char
