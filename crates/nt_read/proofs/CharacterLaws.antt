@@ -8,10 +8,10 @@ use Rattle.bm_term.specs.Classes.{is_scalar, is_irichar}
 use Rattle.bm_term.specs.Escapes.{echar_value}
 use Rattle.bm_term.specs.Marks.{backslash, quotation_mark, greater_than}
 use Rattle.nt_read.specs.Escapes.{IsEchar, IsUchar, uchar_length}
-use Rattle.nt_read.specs.Pieces.{GoesForward}
+use Rattle.nt_read.specs.Pieces.{GoesForward, values, after_values}
 use Rattle.nt_read.specs.Terminals.{IsIriPiece, IsStringPiece, is_string_char}
 use Rattle.nt_read.specs.TerminalReading.{read_uchar, escaped_irichar, iri_piece, read_escape, string_piece}
-use Rattle.nt_read.proofs.PieceLaws.{PassesPieces, PassesOver}
+use Rattle.nt_read.proofs.PieceLaws.{PassesPieces, PassesOver, values-more, after_values-more, values-none, after_values-none}
 use Rattle.nt_read.proofs.EscapeLaws.{read_uchar-some, read_uchar-again}
 
 -- a text has a character at least, where it is a piece of some rule
@@ -154,3 +154,32 @@ string_piece-nil = refl
 pub string_piece-closed : (rest : List ℕ) → string_piece (quotation_mark ∷ rest) ≡ None
 unfolding string_piece is_string_char is_scalar
 string_piece-closed rest = refl
+
+-- a walk over the characters, step by step
+pub iri_values-more : (text rest : List ℕ) (c : ℕ) → iri_piece text ≡ Some (c, rest) → values iri_piece text ≡ c ∷ values iri_piece rest
+iri_values-more text rest c e = values-more iri_piece iri_piece-forward text rest c e
+
+pub after_iri_values-more : (text rest : List ℕ) (c : ℕ) → iri_piece text ≡ Some (c, rest) → after_values iri_piece text ≡ after_values iri_piece rest
+after_iri_values-more text rest c e = after_values-more iri_piece iri_piece-forward text rest c e
+
+pub iri_values-none : (text : List ℕ) → iri_piece text ≡ None → values iri_piece text ≡ []
+iri_values-none text e = values-none iri_piece iri_piece-forward text e
+
+pub after_iri_values-none : (text : List ℕ) → iri_piece text ≡ None → after_values iri_piece text ≡ text
+after_iri_values-none text e = after_values-none iri_piece iri_piece-forward text e
+
+pub string_values-more : (text rest : List ℕ) (c : ℕ) → string_piece text ≡ Some (c, rest) → values string_piece text ≡ c ∷ values string_piece rest
+string_values-more text rest c e = values-more string_piece string_piece-forward text rest c e
+
+pub after_string_values-more : (text rest : List ℕ) (c : ℕ) → string_piece text ≡ Some (c, rest) → after_values string_piece text ≡ after_values string_piece rest
+after_string_values-more text rest c e = after_values-more string_piece string_piece-forward text rest c e
+
+pub string_values-none : (text : List ℕ) → string_piece text ≡ None → values string_piece text ≡ []
+string_values-none text e = values-none string_piece string_piece-forward text e
+
+pub after_string_values-none : (text : List ℕ) → string_piece text ≡ None → after_values string_piece text ≡ text
+after_string_values-none text e = after_values-none string_piece string_piece-forward text e
+
+pub ruleset iri_pieces = (iri_piece-forward, iri_values-more, after_iri_values-more, iri_values-none, after_iri_values-none)
+
+pub ruleset string_pieces = (string_piece-forward, string_values-more, after_string_values-more, string_values-none, after_string_values-none)

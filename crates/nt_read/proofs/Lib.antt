@@ -6,3 +6,4 @@ pub mod TerminalRules
 pub mod TermLaws
 pub mod PlaceLaws
 pub mod LineLaws
+pub mod ByteWalks

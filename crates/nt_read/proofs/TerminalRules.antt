@@ -15,7 +15,7 @@ use Rattle.bm_term.proofs.LanguageTags.{no_letter, no_alphanumeric, after_langua
 use Rattle.bm_term.proofs.TextLemmas.{after_char-some, before-append}
 use Rattle.nt_read.specs.Pieces.{values, after_values}
 use Rattle.nt_read.specs.Terminals.{IsIriPiece, IsIriRef, IsStringPiece, IsString, IsLangtag, IsBlankNodeLabel, IsMark, is_blank}
-use Rattle.nt_read.specs.TerminalReading.{◌>>=◌, iri_piece, string_piece, read_iri_ref, read_string, read_langtag, read_label}
+use Rattle.nt_read.specs.TerminalReading.{◌>>=◌, iri_piece, string_piece, read_iri_body, read_iri_ref, read_string_body, read_string, read_langtag, read_label}
 use Rattle.nt_read.proofs.PieceLaws.{splits, passed_to_end}
 use Rattle.nt_read.proofs.CharacterLaws.{iri_piece-passes, iri_piece-forward, iri_piece-over, iri_piece-closed, string_piece-passes, string_piece-forward, string_piece-over, string_piece-closed}
 use Rattle.nt_read.proofs.TerminalLaws.{Reads, reads_exactly}
@@ -33,7 +33,7 @@ enclosed open_mark close body rest = ap (λ xs. open_mark ∷ xs) (append_assoc 
 
 -- IRIREF
 iri_ref-sound : (text rest iri : List ℕ) → read_iri_ref text ≡ Some (iri, rest) → (front : List ℕ) × IsIriRef front iri × (text ≡ front ++ rest)
-unfolding read_iri_ref
+unfolding read_iri_ref read_iri_body
 iri_ref-sound text rest iri e =
     option_and_then_some _ (after_char less_than text) (iri, rest) e (λ body opens e.
     option_and_then_some _ (after_char greater_than (after_values iri_piece body)) (iri, rest) e (λ end closes e.
@@ -47,7 +47,7 @@ iri_ref-sound text rest iri e =
     )))
 
 iri_ref-closed : (body rest iri : List ℕ) → Star IsIriPiece body iri → read_iri_ref (less_than ∷ (body ++ greater_than ∷ rest)) ≡ Some (iri, rest)
-unfolding read_iri_ref
+unfolding read_iri_ref read_iri_body
 iri_ref-closed body rest iri star =
     let all = passed_to_end iri_piece iri_piece-forward IsIriPiece iri_piece-over iri body (greater_than ∷ rest) star (iri_piece-closed rest) in
     let found : values iri_piece (body ++ greater_than ∷ rest) ≡ iri = ap (λ (p : List ℕ × List ℕ). p.0) all in
@@ -71,7 +71,7 @@ iri_ref-reads = reads_exactly IsIriRef read_iri_ref iri_ref-sound iri_ref-again 
 
 -- STRING_LITERAL_QUOTE
 string-sound : (text rest lexical : List ℕ) → read_string text ≡ Some (lexical, rest) → (front : List ℕ) × IsString front lexical × (text ≡ front ++ rest)
-unfolding read_string
+unfolding read_string read_string_body
 string-sound text rest lexical e =
     option_and_then_some _ (after_char quotation_mark text) (lexical, rest) e (λ body opens e.
     option_and_then_some _ (after_char quotation_mark (after_values string_piece body)) (lexical, rest) e (λ end closes e.
@@ -85,7 +85,7 @@ string-sound text rest lexical e =
     )))
 
 string-closed : (body rest lexical : List ℕ) → Star IsStringPiece body lexical → read_string (quotation_mark ∷ (body ++ quotation_mark ∷ rest)) ≡ Some (lexical, rest)
-unfolding read_string
+unfolding read_string read_string_body
 string-closed body rest lexical star =
     let all = passed_to_end string_piece string_piece-forward IsStringPiece string_piece-over lexical body (quotation_mark ∷ rest) star (string_piece-closed rest) in
     let found : values string_piece (body ++ quotation_mark ∷ rest) ≡ lexical = ap (λ (p : List ℕ × List ℕ). p.0) all in

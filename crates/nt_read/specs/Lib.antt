@@ -1,4 +1,5 @@
 pub mod Escapes
+pub mod Found
 pub mod Line
 pub mod LineReading
 pub mod Pieces

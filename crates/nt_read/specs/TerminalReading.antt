@@ -73,19 +73,23 @@ string_piece (c ∷ cs) =
 abbrev pub Read : Type 0
 Read = List ℕ → Option (List ℕ × List ℕ)
 
--- IRIREF
-unfoldable pub read_iri_ref : Read
-read_iri_ref text = do
-  body ← after_char less_than text
+-- IRIREF, behind its opening bracket and whole
+unfoldable pub read_iri_body : Read
+read_iri_body body = do
   rest ← after_char greater_than (after_values iri_piece body)
   Some (values iri_piece body, rest)
 
--- STRING_LITERAL_QUOTE
-unfoldable pub read_string : Read
-read_string text = do
-  body ← after_char quotation_mark text
+unfoldable pub read_iri_ref : Read
+read_iri_ref text = after_char less_than text >>= read_iri_body
+
+-- STRING_LITERAL_QUOTE, behind its opening mark and whole
+unfoldable pub read_string_body : Read
+read_string_body body = do
   rest ← after_char quotation_mark (after_values string_piece body)
   Some (values string_piece body, rest)
+
+unfoldable pub read_string : Read
+read_string text = after_char quotation_mark text >>= read_string_body
 
 -- LANGTAG
 unfoldable pub read_langtag : Read

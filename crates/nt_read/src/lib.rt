@@ -2,6 +2,8 @@
 #![tactic(auto)]
 
 mod escapes;
+mod found;
 mod line;
+mod runs;
 
 pub use line::{LineFault, read_line};
