@@ -7,3 +7,4 @@ pub mod TermLaws
 pub mod PlaceLaws
 pub mod LineLaws
 pub mod ByteWalks
+pub mod RawLaws

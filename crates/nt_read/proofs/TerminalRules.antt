@@ -54,7 +54,7 @@ iri_ref-closed body rest iri star =
     let end : after_values iri_piece (body ++ greater_than ∷ rest) ≡ greater_than ∷ rest = ap (λ (p : List ℕ × List ℕ). p.1) all in
     rw (end, found) refl
 
-iri_ref-again : (text rest iri : List ℕ) → IsIriRef text iri → read_iri_ref (text ++ rest) ≡ Some (iri, rest)
+pub iri_ref-again : (text rest iri : List ℕ) → IsIriRef text iri → read_iri_ref (text ++ rest) ≡ Some (iri, rest)
 iri_ref-again text rest iri (body, star, spelled) =
     ap read_iri_ref (ap (λ xs. xs ++ rest) spelled ∙ enclosed less_than greater_than body rest) ∙ iri_ref-closed body rest iri star
 
@@ -92,7 +92,7 @@ string-closed body rest lexical star =
     let end : after_values string_piece (body ++ quotation_mark ∷ rest) ≡ quotation_mark ∷ rest = ap (λ (p : List ℕ × List ℕ). p.1) all in
     rw (end, found) refl
 
-string-again : (text rest lexical : List ℕ) → IsString text lexical → read_string (text ++ rest) ≡ Some (lexical, rest)
+pub string-again : (text rest lexical : List ℕ) → IsString text lexical → read_string (text ++ rest) ≡ Some (lexical, rest)
 string-again text rest lexical (body, star, spelled) =
     ap read_string (ap (λ xs. xs ++ rest) spelled ∙ enclosed quotation_mark quotation_mark body rest) ∙ string-closed body rest lexical star
 

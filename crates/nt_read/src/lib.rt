@@ -5,5 +5,6 @@ mod escapes;
 mod found;
 mod line;
 mod runs;
+mod terminals;
 
 pub use line::{LineFault, read_line};
