@@ -1,9 +1,9 @@
 -- A text that is raw between its marks stands for itself.
-use Rattle.std.proofs.Common.{◌≡◌, ℕ, Bool, true, ◌&&◌, ◌||◌, ◌==◌, not, is_none, inl, inr, Option, Some, None, List, [], ◌∷◌, ◌++◌, refl, ap, subst, ◌∙◌, sym, arith, append_assoc, append-nil}
+use Rattle.std.proofs.Common.{◌≡◌, ℕ, Bool, true, is_none, inl, Option, Some, None, List, [], ◌∷◌, ◌++◌, refl, ap, ◌∙◌, sym, arith, append_assoc}
 use Rattle.std.proofs.lemmas.Bool.{and_parts}
 use Rattle.std.proofs.lemmas.Bool.Decides.{nat_tests}
 use Rattle.std.specs.List.{list_all}
-use Rattle.bm_term.specs.Canonical.{iri, plain, blank, canonical_chars, escape_letter, escaped, spelled_by}
+use Rattle.bm_term.specs.Canonical.{iri, plain, blank, canonical_chars, escape_letter, escaped}
 use Rattle.bm_term.specs.Classes.{is_scalar, is_irichar, is_nt_label_first, is_nt_pn_chars}
 use Rattle.bm_term.specs.Marks.{less_than, greater_than, quotation_mark, low_line, colon}
 use Rattle.bm_term.specs.Names.{after_dotted_name}

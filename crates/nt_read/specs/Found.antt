@@ -3,14 +3,14 @@ use Rattle.std.specs.Prelude.{◌≡◌, ℕ, Bool, ◌&&◌, ◌||◌, nat_le, 
 use Rattle.std.specs.Char.{to_ascii_lowercase}
 use Rattle.std.specs.Str.{chars, IsUtf8}
 use Rattle.bm_term.specs.Classes.{is_scalar}
-use Rattle.bm_term.specs.Marks.{colon, low_line}
-use Rattle.bm_term.specs.Canonical.{RdfTerm, iri, blank, plain, tagged, typed, escape_letter, canonical_chars}
+use Rattle.bm_term.specs.Canonical.{RdfTerm, iri, blank, plain, tagged, escape_letter, canonical_chars}
 use Rattle.nt_read.specs.declared.found.Quoted.{Quoted}
 use Rattle.nt_read.specs.declared.found.Quoted.TheVariants.{Raw, Escaped}
 use Rattle.nt_read.specs.declared.found.LiteralTail.{LiteralTail}
 use Rattle.nt_read.specs.declared.found.LiteralTail.TheVariants.{Nothing, Tag, Datatype}
 use Rattle.nt_read.specs.declared.found.FoundTerm.{FoundTerm}
 use Rattle.nt_read.specs.declared.found.FoundTerm.TheVariants.{Iri, Blank, Literal}
+use Rattle.nt_read.specs.declared.found.FoundTriple.{FoundTriple}
 use Rattle.nt_read.specs.Pieces.{values}
 use Rattle.nt_read.specs.TerminalReading.{iri_piece, string_piece}
 use Rattle.nt_read.specs.LineReading.{literal_of}
@@ -75,3 +75,12 @@ unfoldable pub term_found : FoundTerm → RdfTerm
 term_found (Iri quoted) = iri (iri_of quoted)
 term_found (Blank text) = blank (label_of text.now)
 term_found (Literal string tail) = literal_with (lexical_of string) tail
+
+abbrev pub terms_found : FoundTriple → RdfTerm × RdfTerm × RdfTerm
+terms_found found = (term_found found.subject, term_found found.predicate, term_found found.object)
+
+-- each is a text of its term
+pub record AreFoundTexts (found : FoundTriple) : Type 0 where
+  pub subject : IsFoundText found.subject
+  pub predicate : IsFoundText found.predicate
+  pub object : IsFoundText found.object

@@ -24,3 +24,11 @@ pub enum FoundTerm<'a> {
     Blank(&'a str),
     Literal(Quoted<'a>, LiteralTail<'a>),
 }
+
+/// The three terms of a line, as they stand in it.
+#[derive(Clone, Copy)]
+pub struct FoundTriple<'a> {
+    pub subject: FoundTerm<'a>,
+    pub predicate: FoundTerm<'a>,
+    pub object: FoundTerm<'a>,
+}

@@ -4,7 +4,9 @@
 mod escapes;
 mod found;
 mod line;
+mod places;
 mod runs;
+mod statement;
 mod terminals;
 
 pub use line::{LineFault, read_line};

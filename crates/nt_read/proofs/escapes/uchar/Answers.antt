@@ -1,4 +1,3 @@
-use Rattle.std.specs.Option.{option_map}
 use Rattle.std.specs.Str.{chars}
 use Rattle.nt_read.proofs.EscapeLaws.{scalar_is_read, no_scalar_is_refused}
 use Rattle.nt_read.proofs.escapes.uchar.Goals as goal

@@ -22,9 +22,9 @@ returns-clause-is c = (
   (
     c.before-2.utf8,
     rw c.before-2.ensures
-    (label_is_canonical (chars c.args.text.now) (chars c.in_ok-rest.rest.now)
-    (begins_with_label (chars c.args.text.now) (chars c.in_ok-mark.mark.now) (chars c.in_ok-label.label.now) (chars c.in_ok-rest.rest.now)
-    c.in_ok-rest.ensures.longest.text c.in_ok-mark.ensures.chars c.in_ok-label.ensures.chars c.in_ok-rest.ensures.longest.split c.in_ok-rest.ensures.chars)),
+        (label_is_canonical (chars c.args.text.now) (chars c.in_ok-rest.rest.now)
+        (begins_with_label (chars c.args.text.now) (chars c.in_ok-mark.mark.now) (chars c.in_ok-label.label.now) (chars c.in_ok-rest.rest.now)
+        c.in_ok-rest.ensures.longest.text c.in_ok-mark.ensures.chars c.in_ok-label.ensures.chars c.in_ok-rest.ensures.longest.split c.in_ok-rest.ensures.chars)),
   ),
   c.in_ok-rest.ensures.utf8,
 )

@@ -27,9 +27,9 @@ returns-in-Some-clause-is c = (
   (
     c.before-in-Some.utf8,
     rw c.before-in-Some.ensures
-    (iri_run_is_canonical (chars c.args.text.now) (chars c.in-Some.rest.now)
-    (begins_with_run is_irichar less_than greater_than (chars c.args.text.now) (chars c.in_ok-body.body.now) (chars c.in-Some.rest.now)
-    c.in_ok-body.ensures.chars (c.in-Some.ensures.chars ∙ ap (after_char greater_than) c.after_irichars.ensures))),
+        (iri_run_is_canonical (chars c.args.text.now) (chars c.in-Some.rest.now)
+        (begins_with_run is_irichar less_than greater_than (chars c.args.text.now) (chars c.in_ok-body.body.now) (chars c.in-Some.rest.now)
+        c.in_ok-body.ensures.chars (c.in-Some.ensures.chars ∙ ap (after_char greater_than) c.after_irichars.ensures))),
   ),
   c.in-Some.ensures.utf8,
 )

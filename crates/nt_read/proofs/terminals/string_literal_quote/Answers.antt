@@ -26,9 +26,9 @@ returns-in-Some-clause-is c = (
   (
     c.before-in-Some.utf8,
     rw c.before-in-Some.ensures
-    (string_run_is_canonical (chars c.args.text.now) (chars c.in-Some.rest.now)
-    (begins_with_run is_raw_char quotation_mark quotation_mark (chars c.args.text.now) (chars c.in_ok-body.body.now) (chars c.in-Some.rest.now)
-    c.in_ok-body.ensures.chars (c.in-Some.ensures.chars ∙ ap (after_char quotation_mark) c.after_raw_chars.ensures))),
+        (string_run_is_canonical (chars c.args.text.now) (chars c.in-Some.rest.now)
+        (begins_with_run is_raw_char quotation_mark quotation_mark (chars c.args.text.now) (chars c.in_ok-body.body.now) (chars c.in-Some.rest.now)
+        c.in_ok-body.ensures.chars (c.in-Some.ensures.chars ∙ ap (after_char quotation_mark) c.after_raw_chars.ensures))),
   ),
   c.in-Some.ensures.utf8,
 )
