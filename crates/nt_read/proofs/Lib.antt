@@ -8,3 +8,4 @@ pub mod PlaceLaws
 pub mod LineLaws
 pub mod ByteWalks
 pub mod RawLaws
+pub mod WritingLaws

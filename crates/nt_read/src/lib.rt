@@ -8,5 +8,6 @@ mod places;
 mod runs;
 mod statement;
 mod terminals;
+mod writing;
 
 pub use line::{LineFault, read_line};
