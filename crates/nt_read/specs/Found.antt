@@ -3,7 +3,8 @@ use Rattle.std.specs.Prelude.{◌≡◌, ℕ, Bool, ◌&&◌, ◌||◌, nat_le, 
 use Rattle.std.specs.Char.{to_ascii_lowercase}
 use Rattle.std.specs.Str.{chars, IsUtf8}
 use Rattle.bm_term.specs.Classes.{is_scalar}
-use Rattle.bm_term.specs.Canonical.{RdfTerm, iri, blank, plain, tagged, escape_letter, canonical_chars}
+use Rattle.bm_term.specs.Canonical.{RdfTerm, iri, blank, plain, tagged, IsTerm, escape_letter, canonical_chars}
+use Rattle.bm_term.specs.declared.triple.Triple.{Triple}
 use Rattle.nt_read.specs.declared.found.Quoted.{Quoted}
 use Rattle.nt_read.specs.declared.found.Quoted.TheVariants.{Raw, Escaped}
 use Rattle.nt_read.specs.declared.found.LiteralTail.{LiteralTail}
@@ -13,6 +14,7 @@ use Rattle.nt_read.specs.declared.found.FoundTerm.TheVariants.{Iri, Blank, Liter
 use Rattle.nt_read.specs.declared.found.FoundTriple.{FoundTriple}
 use Rattle.nt_read.specs.Pieces.{values}
 use Rattle.nt_read.specs.TerminalReading.{iri_piece, string_piece}
+use Rattle.nt_read.specs.Line.{triple_of}
 use Rattle.nt_read.specs.LineReading.{literal_of}
 
 -- a character that stands for itself in a canonical literal, and a byte of such characters
@@ -84,3 +86,11 @@ pub record AreFoundTexts (found : FoundTriple) : Type 0 where
   pub subject : IsFoundText found.subject
   pub predicate : IsFoundText found.predicate
   pub object : IsFoundText found.object
+
+pub record AreTerms (found : FoundTriple) : Type 0 where
+  pub subject : IsTerm (term_found found.subject)
+  pub predicate : IsTerm (term_found found.predicate)
+  pub object : IsTerm (term_found found.object)
+
+abbrev pub triple_found : FoundTriple → Triple
+triple_found found = triple_of (term_found found.subject) (term_found found.predicate) (term_found found.object)

@@ -10,8 +10,8 @@ pub loop-c-preserved : goal.loop-c-preserved
 loop-c-preserved c = (
   c.in-Some.ensures.utf8,
   iri_step (string_bytes c.loop-c.out) (string_bytes c.push.new.self) (chars c.loop-c.rest.now) (chars c.in-Some.after.now)
-  (string_bytes c.args.out.now ++ encode_utf8_all (values iri_piece (chars c.args.text.now))) c.in-Some.c
-  c.in_ok-push.ensures.bytes c.in-Some.ensures.chars c.loop-c.invariant.1,
+      (string_bytes c.args.out.now ++ encode_utf8_all (values iri_piece (chars c.args.text.now))) c.in-Some.c
+      c.in_ok-push.ensures.bytes c.in-Some.ensures.chars c.loop-c.invariant.1,
 )
 
 pub returns : goal.returns

@@ -11,8 +11,8 @@ pub loop-c-preserved : goal.loop-c-preserved
 loop-c-preserved c = (
   c.in-Some.ensures.utf8,
   string_step (string_bytes c.loop-c.out) (string_bytes c.push_spelling.new.out) (chars c.loop-c.rest.now) (chars c.in-Some.after.now)
-  (string_bytes c.args.out.now ++ encode_utf8_all (escaped (values string_piece (chars c.args.text.now)))) c.in-Some.c
-  c.in_ok-push_spelling.ensures.ok c.in-Some.ensures.chars c.loop-c.invariant.1,
+      (string_bytes c.args.out.now ++ encode_utf8_all (escaped (values string_piece (chars c.args.text.now)))) c.in-Some.c
+      c.in_ok-push_spelling.ensures.ok c.in-Some.ensures.chars c.loop-c.invariant.1,
 )
 
 pub returns : goal.returns
