@@ -9,3 +9,4 @@ pub mod LineLaws
 pub mod ByteWalks
 pub mod RawLaws
 pub mod WritingLaws
+pub mod LiteralTexts

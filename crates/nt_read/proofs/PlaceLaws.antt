@@ -138,11 +138,11 @@ literal_of-object text lexical datatype rest is =
       | false ↦ λ e. (is, λ same. let equal = (bytes_eq-Decides datatype xsd_string).1 same in absurd (cc))
     ] refl
 
-literal_of-xsd_string : (lexical : List ℕ) → literal_of lexical xsd_string ≡ plain lexical
+pub literal_of-xsd_string : (lexical : List ℕ) → literal_of lexical xsd_string ≡ plain lexical
 unfolding literal_of
 literal_of-xsd_string lexical = rw ((bytes_eq-Decides xsd_string xsd_string).1 refl) refl
 
-literal_of-other : (lexical datatype : List ℕ) → datatype ≢ xsd_string → literal_of lexical datatype ≡ typed lexical datatype
+pub literal_of-other : (lexical datatype : List ℕ) → datatype ≢ xsd_string → literal_of lexical datatype ≡ typed lexical datatype
 unfolding literal_of
 literal_of-other lexical datatype other =
     elim (bytes_eq datatype xsd_string) as (λ b. bytes_eq datatype xsd_string ≡ b → (if b then plain lexical else typed lexical datatype) ≡ typed lexical datatype) [

@@ -35,7 +35,7 @@ string_scalars : (lexical body : List ℕ) → Star IsStringPiece body lexical �
 string_scalars [] body star = refl
 string_scalars (c ∷ cs) body (front, rest, piece, star, split) = both_true (string_piece_is_scalar front c piece) (string_scalars cs rest star)
 
-iri_members : (iri body : List ℕ) → Star IsIriPiece body iri → list_all is_irichar iri ≡ true
+pub iri_members : (iri body : List ℕ) → Star IsIriPiece body iri → list_all is_irichar iri ≡ true
 iri_members [] body star = refl
 iri_members (c ∷ cs) body (front, rest, piece, star, split) = both_true piece.0 (iri_members cs rest star)
 

@@ -28,7 +28,7 @@ blank_is_other mark other c cs is =
     ] refl
 
 -- text between an opening and a closing mark
-enclosed : (open_mark close : ℕ) (body rest : List ℕ) → (open_mark ∷ (body ++ close ∷ [])) ++ rest ≡ open_mark ∷ (body ++ close ∷ rest)
+pub enclosed : (open_mark close : ℕ) (body rest : List ℕ) → (open_mark ∷ (body ++ close ∷ [])) ++ rest ≡ open_mark ∷ (body ++ close ∷ rest)
 enclosed open_mark close body rest = ap (λ xs. open_mark ∷ xs) (append_assoc body (close ∷ []) rest)
 
 -- IRIREF
