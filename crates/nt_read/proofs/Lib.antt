@@ -10,3 +10,4 @@ pub mod ByteWalks
 pub mod RawLaws
 pub mod WritingLaws
 pub mod LiteralTexts
+pub mod LineAnswers

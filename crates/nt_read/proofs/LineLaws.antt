@@ -5,13 +5,13 @@ use Rattle.std.proofs.lemmas.Str.{is_utf8-from_IsUtf8, IsUtf8-from_is_utf8}
 use Rattle.std.specs.Str.{chars, IsUtf8, is_utf8}
 use Rattle.bm_term.specs.declared.triple.Triple.{Triple}
 use Rattle.bm_term.specs.declared.term_parts.TermKind.TheVariants.{Iri}
-use Rattle.bm_term.specs.Canonical.{RdfTerm, iri, blank, plain, tagged, typed, canonical_text, IsTextOf}
+use Rattle.bm_term.specs.Canonical.{RdfTerm, iri, blank, plain, tagged, typed, IsTerm, canonical_text, IsTextOf}
 use Rattle.bm_term.specs.Triple.{IsNode, IsRdfTriple}
 use Rattle.bm_term.specs.Marks.{full_stop}
 use Rattle.bm_term.specs.Text.{after_char}
 use Rattle.nt_read.specs.Line.{IsSubject, IsPredicate, SpellsTerms, IsEnd, triple_of, Spells, SpellsNothing, IsBadLine}
 use Rattle.nt_read.specs.LineReading.{LineReading, bad, nothing, spelled, after_blanks, read_subject, read_predicate, read_object, is_end, read_statement, reading_of, read_chars, line_reading}
-use Rattle.nt_read.proofs.TermLaws.{subject_is_term, predicate_is_term}
+use Rattle.nt_read.proofs.TermLaws.{subject_is_term, predicate_is_term, object_is_term}
 use Rattle.nt_read.proofs.PlaceLaws.{subject_found, subject_read, predicate_found, predicate_read, object_found, object_read, dot_found, dot_stands, end_found, end_read, subject_no_end}
 
 abbrev Terms : Type 0
@@ -192,3 +192,25 @@ spelled_is_rdf line triple s =
       subject = subject_is_node s.subject (chars line) t.after_subject t.subject_is;
       predicate = predicate_is_iri s.predicate t.after_subject t.after_predicate t.predicate_is;
     })
+
+-- the terms of a statement are terms
+pub statement_is_terms : (text : List ℕ) (subject predicate object : RdfTerm) → read_statement text ≡ Some (subject, predicate, object) → IsTerm subject × IsTerm predicate × IsTerm object
+statement_is_terms text subject predicate object e =
+    let t = statement_found text subject predicate object e in (
+      subject_is_term subject text t.after_subject t.subject_is,
+      predicate_is_term predicate t.after_subject t.after_predicate t.predicate_is,
+      object_is_term object t.after_predicate t.after_object t.object_is,
+    )
+
+-- a text that is no end is read as its statement
+pub statement_is_spelled : (text : List ℕ) (terms : Terms) → is_end text ≡ false → Some terms ≡ read_statement text → read_chars text ≡ spelled (triple_of terms.0 terms.1 terms.2)
+unfolding read_chars
+statement_is_spelled text terms no_end found = rw (no_end, ← found) refl
+
+pub no_statement_is_bad : (text : List ℕ) → is_end text ≡ false → None ≡ read_statement text → read_chars text ≡ bad
+unfolding read_chars
+no_statement_is_bad text no_end found = rw (no_end, ← found) refl
+
+pub end_is_nothing : (text : List ℕ) → is_end text ≡ true → read_chars text ≡ nothing
+unfolding read_chars
+end_is_nothing text e = rw e refl

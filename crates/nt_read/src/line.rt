@@ -1,10 +1,14 @@
 // The line of N-Triples.
 ghost use Rattle.std.specs.Prelude.{IfOk, IfSome, IfNone, IsErrOf};
+ghost use Rattle.std.specs.Str.{chars};
 ghost use Rattle.bm_term.specs.declared.triple.Triple.{Triple};
 ghost use Rattle.bm_term.specs.Triple.{IsRdfTriple};
 ghost use Rattle.nt_read.specs.Line.{Spells, SpellsNothing, IsBadLine};
-ghost use Rattle.nt_read.specs.LineReading.{bad, nothing, spelled, line_reading, IsReadAs};
+ghost use Rattle.nt_read.specs.LineReading.{bad, nothing, spelled, read_chars, line_reading, IsReadAs};
 
+use crate::places::is_end;
+use crate::statement::statement;
+use crate::writing::triple;
 use bm_term::Triple;
 use std::alloc::Global;
 
@@ -30,7 +34,30 @@ pub fn read_line(alloc: Global, line: &[u8]) -> Result<Option<Triple>, LineFault
     ensures only_nothing { SpellsNothing line.now → IsReadAs nothing result }
     ensures only_bad { IsBadLine line.now → IsReadAs bad result }
 {
-    let _ = alloc;
-    let _ = line;
-    Err(LineFault::Memory)
+    read(alloc, line)
+}
+
+fn read(alloc: Global, line: &[u8]) -> Result<Option<Triple>, LineFault>
+    ensures { IsReadAs (line_reading line.now) result }
+{
+    match str::from_utf8(line) {
+        Ok(text) => read_text(alloc, text),
+        Err(_) => Err(LineFault::Bad),
+    }
+}
+
+// line ::= (subject predicate object '.')? comment?
+fn read_text(alloc: Global, text: &str) -> Result<Option<Triple>, LineFault>
+    ensures { IsReadAs (read_chars (chars text.now)) result }
+{
+    if is_end(text) {
+        return Ok(None);
+    }
+    match statement(text) {
+        Some(found) => match triple(alloc, found) {
+            Ok(triple) => Ok(Some(triple)),
+            Err(_) => Err(LineFault::Memory),
+        },
+        None => Err(LineFault::Bad),
+    }
 }
