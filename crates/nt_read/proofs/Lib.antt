@@ -11,3 +11,4 @@ pub mod RawLaws
 pub mod WritingLaws
 pub mod LiteralTexts
 pub mod LineAnswers
+pub mod LineExamples
