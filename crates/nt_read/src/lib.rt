@@ -17,3 +17,6 @@ pub use laws::{
     the_reading_is_what_is_spelled,
 };
 pub use line::{LineFault, read_line};
+
+#[cfg(test)]
+mod tests;
