@@ -1,0 +1,91 @@
+-- A run that is walked by bytes is the run of characters, where each character beyond ASCII belongs to it.
+use Rattle.std.proofs.Common.{◌≡◌, ℕ, ◌<◌, ◌≤◌, Bool, true, false, nat_le, is_none, if◌then◌else◌, ⊎_elim, Some, None, List, [], ◌∷◌, ◌++◌, refl, ap, ◌∙◌, sym, subst, arith}
+use Rattle.std.proofs.lemmas.Bool.{and_parts, cases_lt}
+use Rattle.std.proofs.lemmas.Bool.Decides.{nat_tests}
+use Rattle.std.proofs.lemmas.Str.{encodes-append, encodes-chars, chars-encodes, scalars-chars, encode_ascii}
+use Rattle.std.specs.Cmp.Derive.{both_true}
+use Rattle.std.specs.List.{list_all}
+use Rattle.std.specs.Str.{chars, IsUtf8, all_scalars, encode_utf8_all}
+use lib.Utf8.{scalar, encode}
+use Rattle.bm_term.specs.Canonical.{escape_letter}
+use Rattle.bm_term.specs.Classes.{is_scalar}
+use Rattle.bm_term.specs.Text.{after_run, HasRest}
+use Rattle.bm_term.proofs.Scalars.{scalars_back}
+use Rattle.bm_term.proofs.Spellings.{escaped_is_ascii}
+use Rattle.bm_term.proofs.TextLemmas.{after_run-split, after_run-append}
+use Rattle.bm_term.proofs.Unescaping.{encode_is_high}
+use Rattle.nt_read.specs.Found.{is_raw_char, is_raw_byte}
+use Rattle.nt_read.proofs.EscapeLaws.{is_scalar-scalar}
+
+-- a text whose end has these characters
+pub record EndsWith (text end cs : List ℕ) : Type 0 where
+  pub rest : HasRest text end
+  pub utf8 : IsUtf8 end
+  pub characters : chars end ≡ cs
+
+ends_with : (text front end : List ℕ) → IsUtf8 text → chars text ≡ front ++ end → EndsWith text (encode_utf8_all end) end
+ends_with text front end utf8 split =
+    let end_scalars = scalars_back front end (subst (λ xs. all_scalars xs ≡ true) split (scalars-chars text utf8)) in
+    record {
+      rest = (encode_utf8_all front, sym (encodes-chars text utf8) ∙ ap encode_utf8_all split ∙ encodes-append front end);
+      utf8 = (end, (end_scalars, refl));
+      characters = chars-encodes end end_scalars;
+    }
+
+module _ (byte char : ℕ → Bool)
+    (ascii : (c : ℕ) → c < 128 → byte c ≡ char c)
+    (high_byte : (b : ℕ) → nat_le 128 b ≡ true → byte b ≡ true)
+    (high_char : (c : ℕ) → 128 ≤ c → scalar c ≡ true → char c ≡ true) where
+  high_bytes : (bytes : List ℕ) → list_all (λ b. nat_le 128 b) bytes ≡ true → list_all byte bytes ≡ true
+  high_bytes [] all = refl
+  high_bytes (b ∷ bs) all =
+      let (first, others) = and_parts (nat_le 128 b) (list_all (λ b. nat_le 128 b) bs) all in
+      both_true (high_byte b first) (high_bytes bs others)
+
+  ascii_step : (c : ℕ) (cs : List ℕ) → c < 128 → after_run byte (encode_utf8_all cs) ≡ encode_utf8_all (after_run char cs) → after_run byte (encode_utf8_all (c ∷ cs)) ≡ encode_utf8_all (after_run char (c ∷ cs))
+  unfolding after_run
+  ascii_step c cs small others =
+      rw (encode_ascii c small, ascii c small)
+      (elim (char c) as (λ b. (if b then after_run byte (encode_utf8_all cs) else c ∷ encode_utf8_all cs) ≡ encode_utf8_all (if b then after_run char cs else c ∷ cs)) [
+        | true ↦ others
+        | false ↦ rw (encode_ascii c small) refl
+      ])
+
+  high_step : (c : ℕ) (cs : List ℕ) → 128 ≤ c → scalar c ≡ true → after_run byte (encode_utf8_all cs) ≡ encode_utf8_all (after_run char cs) → after_run byte (encode_utf8_all (c ∷ cs)) ≡ encode_utf8_all (after_run char (c ∷ cs))
+  unfolding after_run
+  high_step c cs high is others =
+      rw (high_char c high is) (after_run-append byte (encode c) (encode_utf8_all cs) (high_bytes (encode c) (encode_is_high c high)) ∙ others)
+
+  after_run-encode : (cs : List ℕ) → all_scalars cs ≡ true → after_run byte (encode_utf8_all cs) ≡ encode_utf8_all (after_run char cs)
+  unfolding after_run
+  after_run-encode [] scalars = refl
+  after_run-encode (c ∷ cs) scalars =
+      let (first, others) = and_parts (scalar c) (all_scalars cs) scalars in
+      ⊎_elim (λ small. ascii_step c cs small (after_run-encode cs others)) (λ high. high_step c cs high first (after_run-encode cs others)) (cases_lt c 128)
+
+  pub byte_run-ends : (text : List ℕ) → IsUtf8 text → EndsWith text (after_run byte text) (after_run char (chars text))
+  byte_run-ends text utf8 =
+      let (run, all, split) = after_run-split char (chars text) in
+      let walked : after_run byte text ≡ encode_utf8_all (after_run char (chars text)) =
+      ap (after_run byte) (sym (encodes-chars text utf8)) ∙ after_run-encode (chars text) (scalars-chars text utf8) in
+      rw walked (ends_with text run (after_run char (chars text)) utf8 split)
+
+raw_ascii : (c : ℕ) → c < 128 → is_raw_byte c ≡ is_raw_char c
+unfolding is_raw_byte is_raw_char is_scalar
+raw_ascii c small = grind (arith, nat_tests)
+
+raw_high_byte : (b : ℕ) → nat_le 128 b ≡ true → is_raw_byte b ≡ true
+unfolding is_raw_byte
+raw_high_byte b high = rw high refl
+
+raw_high_char : (c : ℕ) → 128 ≤ c → scalar c ≡ true → is_raw_char c ≡ true
+unfolding is_raw_char
+raw_high_char c high is =
+    rw (is_scalar-scalar c, is)
+    (elim (escape_letter c) as (λ r. escape_letter c ≡ r → is_none r ≡ true) [
+      | None ↦ λ e. refl
+      | Some letter ↦ λ e. absurd (omega (arith, escaped_is_ascii c letter e))
+    ] refl)
+
+pub raw_bytes-ends : (text : List ℕ) → IsUtf8 text → EndsWith text (after_run is_raw_byte text) (after_run is_raw_char (chars text))
+raw_bytes-ends text utf8 = byte_run-ends is_raw_byte is_raw_char raw_ascii raw_high_byte raw_high_char text utf8

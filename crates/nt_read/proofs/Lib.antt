@@ -1,0 +1,14 @@
+pub mod PieceLaws
+pub mod EscapeLaws
+pub mod CharacterLaws
+pub mod TerminalLaws
+pub mod TerminalRules
+pub mod TermLaws
+pub mod PlaceLaws
+pub mod LineLaws
+pub mod ByteWalks
+pub mod RawLaws
+pub mod WritingLaws
+pub mod LiteralTexts
+pub mod LineAnswers
+pub mod LineExamples

@@ -1,0 +1,228 @@
+-- How each terminal of a line is read.
+use Rattle.std.proofs.Common.{◌≡◌, ℕ, ◌≤◌, true, false, ◌==◌, if◌then◌else◌, Option, Some, None, List, [], ◌∷◌, ◌++◌, map, length, refl, ap, subst, ◌∙◌, sym, append_assoc}
+use Rattle.std.proofs.lemmas.Bool.{eqb-true}
+use Rattle.std.proofs.lemmas.Option.{option_and_then_some, some_pair_parts}
+use Rattle.std.specs.Char.{to_ascii_lowercase}
+use Rattle.std.specs.Option.{option_map}
+use Rattle.bm_term.specs.Classes.{is_letter, is_alphanumeric, is_nt_label_first, is_nt_pn_chars}
+use Rattle.bm_term.specs.Canonical.{IsLabel}
+use Rattle.bm_term.specs.Marks.{quotation_mark, colon, less_than, greater_than, at_sign, full_stop, circumflex, low_line}
+use Rattle.bm_term.specs.Names.{after_dotted_name, after_language_tag}
+use Rattle.bm_term.specs.Repetition.{Star}
+use Rattle.bm_term.specs.Text.{after_char, before}
+use Rattle.bm_term.proofs.DottedNames.{after_dotted_name-sound, after_dotted_name-reaches}
+use Rattle.bm_term.proofs.LanguageTags.{no_letter, no_alphanumeric, after_language_tag-sound, after_language_tag-reaches}
+use Rattle.bm_term.proofs.TextLemmas.{after_char-some, before-append}
+use Rattle.nt_read.specs.Pieces.{values, after_values}
+use Rattle.nt_read.specs.Terminals.{IsIriPiece, IsIriRef, IsStringPiece, IsString, IsLangtag, IsBlankNodeLabel, IsMark, is_blank}
+use Rattle.nt_read.specs.TerminalReading.{◌>>=◌, iri_piece, string_piece, read_iri_body, read_iri_ref, read_string_body, read_string, read_langtag, read_label}
+use Rattle.nt_read.proofs.PieceLaws.{splits, passed_to_end}
+use Rattle.nt_read.proofs.CharacterLaws.{iri_piece-passes, iri_piece-forward, iri_piece-over, iri_piece-closed, string_piece-passes, string_piece-forward, string_piece-over, string_piece-closed}
+use Rattle.nt_read.proofs.TerminalLaws.{Reads, reads_exactly}
+
+blank_is_other : (mark : ℕ) → is_blank mark ≡ false → (c : ℕ) (cs : List ℕ) → is_blank c ≡ true → after_char mark (c ∷ cs) ≡ None
+blank_is_other mark other c cs is =
+    elim (c == mark) as (λ b. (c == mark) ≡ b → ◌≡◌ {A = Option (List ℕ)} (if b then Some cs else None) None) [
+      | true ↦ λ e. let same = ap is_blank (eqb-true c mark e) in absurd (cc)
+      | false ↦ λ e. refl
+    ] refl
+
+-- text between an opening and a closing mark
+pub enclosed : (open_mark close : ℕ) (body rest : List ℕ) → (open_mark ∷ (body ++ close ∷ [])) ++ rest ≡ open_mark ∷ (body ++ close ∷ rest)
+enclosed open_mark close body rest = ap (λ xs. open_mark ∷ xs) (append_assoc body (close ∷ []) rest)
+
+-- IRIREF
+iri_ref-sound : (text rest iri : List ℕ) → read_iri_ref text ≡ Some (iri, rest) → (front : List ℕ) × IsIriRef front iri × (text ≡ front ++ rest)
+unfolding read_iri_ref read_iri_body
+iri_ref-sound text rest iri e =
+    option_and_then_some _ (after_char less_than text) (iri, rest) e (λ body opens e.
+    option_and_then_some _ (after_char greater_than (after_values iri_piece body)) (iri, rest) e (λ end closes e.
+    let (same, ends) = some_pair_parts (values iri_piece body) iri end rest e in
+    let (front, star, split) = splits iri_piece iri_piece-forward IsIriPiece iri_piece-passes body in (
+      less_than ∷ (front ++ greater_than ∷ []),
+      (front, rw (← same) star, refl),
+      after_char-some less_than text body opens
+          ∙ ap (λ xs. less_than ∷ xs) (split ∙ ap (λ xs. front ++ xs) (after_char-some greater_than (after_values iri_piece body) end closes ∙ ap (λ xs. greater_than ∷ xs) ends))
+          ∙ sym (enclosed less_than greater_than front rest),
+    )))
+
+iri_ref-closed : (body rest iri : List ℕ) → Star IsIriPiece body iri → read_iri_ref (less_than ∷ (body ++ greater_than ∷ rest)) ≡ Some (iri, rest)
+unfolding read_iri_ref read_iri_body
+iri_ref-closed body rest iri star =
+    let all = passed_to_end iri_piece iri_piece-forward IsIriPiece iri_piece-over iri body (greater_than ∷ rest) star (iri_piece-closed rest) in
+    let found : values iri_piece (body ++ greater_than ∷ rest) ≡ iri = ap (λ (p : List ℕ × List ℕ). p.0) all in
+    let end : after_values iri_piece (body ++ greater_than ∷ rest) ≡ greater_than ∷ rest = ap (λ (p : List ℕ × List ℕ). p.1) all in
+    rw (end, found) refl
+
+pub iri_ref-again : (text rest iri : List ℕ) → IsIriRef text iri → read_iri_ref (text ++ rest) ≡ Some (iri, rest)
+iri_ref-again text rest iri (body, star, spelled) =
+    ap read_iri_ref (ap (λ xs. xs ++ rest) spelled ∙ enclosed less_than greater_than body rest) ∙ iri_ref-closed body rest iri star
+
+iri_ref-nil : read_iri_ref [] ≡ None
+unfolding read_iri_ref
+iri_ref-nil = refl
+
+iri_ref-blank : (c : ℕ) (cs : List ℕ) → is_blank c ≡ true → read_iri_ref (c ∷ cs) ≡ None
+unfolding read_iri_ref is_blank
+iri_ref-blank c cs is = rw (blank_is_other less_than refl c cs is) refl
+
+pub iri_ref-reads : Reads IsIriRef read_iri_ref
+iri_ref-reads = reads_exactly IsIriRef read_iri_ref iri_ref-sound iri_ref-again iri_ref-nil iri_ref-blank
+
+-- STRING_LITERAL_QUOTE
+string-sound : (text rest lexical : List ℕ) → read_string text ≡ Some (lexical, rest) → (front : List ℕ) × IsString front lexical × (text ≡ front ++ rest)
+unfolding read_string read_string_body
+string-sound text rest lexical e =
+    option_and_then_some _ (after_char quotation_mark text) (lexical, rest) e (λ body opens e.
+    option_and_then_some _ (after_char quotation_mark (after_values string_piece body)) (lexical, rest) e (λ end closes e.
+    let (same, ends) = some_pair_parts (values string_piece body) lexical end rest e in
+    let (front, star, split) = splits string_piece string_piece-forward IsStringPiece string_piece-passes body in (
+      quotation_mark ∷ (front ++ quotation_mark ∷ []),
+      (front, rw (← same) star, refl),
+      after_char-some quotation_mark text body opens
+          ∙ ap (λ xs. quotation_mark ∷ xs) (split ∙ ap (λ xs. front ++ xs) (after_char-some quotation_mark (after_values string_piece body) end closes ∙ ap (λ xs. quotation_mark ∷ xs) ends))
+          ∙ sym (enclosed quotation_mark quotation_mark front rest),
+    )))
+
+string-closed : (body rest lexical : List ℕ) → Star IsStringPiece body lexical → read_string (quotation_mark ∷ (body ++ quotation_mark ∷ rest)) ≡ Some (lexical, rest)
+unfolding read_string read_string_body
+string-closed body rest lexical star =
+    let all = passed_to_end string_piece string_piece-forward IsStringPiece string_piece-over lexical body (quotation_mark ∷ rest) star (string_piece-closed rest) in
+    let found : values string_piece (body ++ quotation_mark ∷ rest) ≡ lexical = ap (λ (p : List ℕ × List ℕ). p.0) all in
+    let end : after_values string_piece (body ++ quotation_mark ∷ rest) ≡ quotation_mark ∷ rest = ap (λ (p : List ℕ × List ℕ). p.1) all in
+    rw (end, found) refl
+
+pub string-again : (text rest lexical : List ℕ) → IsString text lexical → read_string (text ++ rest) ≡ Some (lexical, rest)
+string-again text rest lexical (body, star, spelled) =
+    ap read_string (ap (λ xs. xs ++ rest) spelled ∙ enclosed quotation_mark quotation_mark body rest) ∙ string-closed body rest lexical star
+
+string-nil : read_string [] ≡ None
+unfolding read_string
+string-nil = refl
+
+string-blank : (c : ℕ) (cs : List ℕ) → is_blank c ≡ true → read_string (c ∷ cs) ≡ None
+unfolding read_string is_blank
+string-blank c cs is = rw (blank_is_other quotation_mark refl c cs is) refl
+
+pub string-reads : Reads IsString read_string
+string-reads = reads_exactly IsString read_string string-sound string-again string-nil string-blank
+
+-- LANGTAG
+langtag-sound : (text rest tag : List ℕ) → read_langtag text ≡ Some (tag, rest) → (front : List ℕ) × IsLangtag front tag × (text ≡ front ++ rest)
+unfolding read_langtag
+langtag-sound text rest tag e =
+    option_and_then_some _ (after_char at_sign text) (tag, rest) e (λ written mark e.
+    option_and_then_some _ (after_language_tag is_letter is_alphanumeric written) (tag, rest) e (λ end found e.
+    let (lower, ends) = some_pair_parts (map to_ascii_lowercase (before written end)) tag end rest e in
+    let (front, is, split) = after_language_tag-sound is_letter is_alphanumeric written end found in
+    let cut : before written end ≡ front = ap (λ xs. before xs end) split ∙ before-append front end in (
+      at_sign ∷ front,
+      (front, is, sym lower ∙ ap (map to_ascii_lowercase) cut, refl),
+      after_char-some at_sign text written mark ∙ ap (λ xs. at_sign ∷ xs) (split ∙ ap (λ xs. front ++ xs) ends),
+    )))
+
+langtag-found : (written more end : List ℕ) → after_language_tag is_letter is_alphanumeric (written ++ more) ≡ Some end → read_langtag (at_sign ∷ (written ++ more)) ≡ Some (map to_ascii_lowercase (before (written ++ more) end), end)
+unfolding read_langtag
+langtag-found written more end e = rw e refl
+
+langtag-reaches : (text more tag : List ℕ) → IsLangtag text tag → (other : List ℕ) × (rest : List ℕ) × (read_langtag (text ++ more) ≡ Some (other, rest)) × (length rest ≤ length more)
+langtag-reaches text more tag (written, is, lower, spelled) =
+    let (end, found, less) = after_language_tag-reaches is_letter is_alphanumeric no_letter no_alphanumeric written more is in
+    (map to_ascii_lowercase (before (written ++ more) end), end, ap (λ xs. read_langtag (xs ++ more)) spelled ∙ langtag-found written more end found, less)
+
+langtag-one : (text tag other : List ℕ) → IsLangtag text tag → IsLangtag text other → tag ≡ other
+langtag-one text tag other (written, is, lower, spelled) (written', is', lower', spelled') =
+    let same : written ≡ written' = cc in
+    lower ∙ ap (map to_ascii_lowercase) same ∙ sym lower'
+
+langtag-nil : read_langtag [] ≡ None
+unfolding read_langtag
+langtag-nil = refl
+
+langtag-blank : (c : ℕ) (cs : List ℕ) → is_blank c ≡ true → read_langtag (c ∷ cs) ≡ None
+unfolding read_langtag is_blank
+langtag-blank c cs is = rw (blank_is_other at_sign refl c cs is) refl
+
+pub langtag-reads : Reads IsLangtag read_langtag
+langtag-reads = record { sound = langtag-sound; reaches = langtag-reaches; one = langtag-one; nil = langtag-nil; blank = langtag-blank }
+
+-- BLANK_NODE_LABEL
+label-sound : (text rest label : List ℕ) → read_label text ≡ Some (label, rest) → (front : List ℕ) × IsBlankNodeLabel front label × (text ≡ front ++ rest)
+unfolding read_label
+label-sound text rest label e =
+    option_and_then_some _ (after_char low_line text) (label, rest) e (λ mark mark_is e.
+    option_and_then_some _ (after_char colon mark) (label, rest) e (λ written colon_is e.
+    option_and_then_some _ (after_dotted_name is_nt_label_first is_nt_pn_chars written) (label, rest) e (λ end found e.
+    let (same, ends) = some_pair_parts (before written end) label end rest e in
+    let (front, is, split) = after_dotted_name-sound is_nt_label_first is_nt_pn_chars written end found in
+    let cut : front ≡ label = sym (ap (λ xs. before xs end) split ∙ before-append front end) ∙ same in (
+      low_line ∷ colon ∷ label,
+      (subst IsLabel cut is, refl),
+      after_char-some low_line text mark mark_is
+          ∙ ap (λ xs. low_line ∷ xs) (after_char-some colon mark written colon_is ∙ ap (λ xs. colon ∷ xs) (split ∙ ap (λ xs. xs ++ end) cut ∙ ap (λ xs. label ++ xs) ends)),
+    ))))
+
+label-found : (label more end : List ℕ) → after_dotted_name is_nt_label_first is_nt_pn_chars (label ++ more) ≡ Some end → read_label (low_line ∷ colon ∷ (label ++ more)) ≡ Some (before (label ++ more) end, end)
+unfolding read_label
+label-found label more end e = rw e refl
+
+label-reaches : (text more label : List ℕ) → IsBlankNodeLabel text label → (other : List ℕ) × (rest : List ℕ) × (read_label (text ++ more) ≡ Some (other, rest)) × (length rest ≤ length more)
+label-reaches text more label (is, spelled) =
+    let (end, found, less) = after_dotted_name-reaches is_nt_label_first is_nt_pn_chars label more is in
+    (before (label ++ more) end, end, ap (λ xs. read_label (xs ++ more)) spelled ∙ label-found label more end found, less)
+
+label-one : (text label other : List ℕ) → IsBlankNodeLabel text label → IsBlankNodeLabel text other → label ≡ other
+label-one text label other (is, spelled) (is', spelled') = cc
+
+label-nil : read_label [] ≡ None
+unfolding read_label
+label-nil = refl
+
+label-blank : (c : ℕ) (cs : List ℕ) → is_blank c ≡ true → read_label (c ∷ cs) ≡ None
+unfolding read_label is_blank
+label-blank c cs is = rw (blank_is_other low_line refl c cs is) refl
+
+pub label-reads : Reads IsBlankNodeLabel read_label
+label-reads = record { sound = label-sound; reaches = label-reaches; one = label-one; nil = label-nil; blank = label-blank }
+
+-- a mark of one character, and the mark of a datatype
+abbrev pub marked : Option (List ℕ) → Option (Unit {0} × List ℕ)
+marked found = option_map (λ rest. (tt, rest)) found
+
+marked-some : (found : Option (List ℕ)) (rest : List ℕ) (v : Unit {0}) → marked found ≡ Some (v, rest) → found ≡ Some rest
+marked-some None rest v e = absurd (cc)
+marked-some (Some end) rest v e = ap Some (some_pair_parts tt v end rest e).1
+
+abbrev pub read_dot : List ℕ → Option (Unit {0} × List ℕ)
+read_dot text = marked (after_char full_stop text)
+
+dot-blank : (c : ℕ) (cs : List ℕ) → is_blank c ≡ true → read_dot (c ∷ cs) ≡ None
+unfolding is_blank
+dot-blank c cs is = ap marked (blank_is_other full_stop refl c cs is)
+
+pub dot-reads : Reads (IsMark (full_stop ∷ [])) read_dot
+dot-reads =
+    reads_exactly (IsMark (full_stop ∷ [])) read_dot
+    (λ text rest v e. (full_stop ∷ [], refl, after_char-some full_stop text rest (marked-some (after_char full_stop text) rest v e)))
+    (λ front more v is. rw is refl) refl dot-blank
+
+abbrev pub after_datatype_mark : List ℕ → Option (List ℕ)
+after_datatype_mark text = after_char circumflex text >>= after_char circumflex
+
+abbrev pub read_datatype_mark : List ℕ → Option (Unit {0} × List ℕ)
+read_datatype_mark text = marked (after_datatype_mark text)
+
+datatype_mark-sound : (text rest : List ℕ) → after_datatype_mark text ≡ Some rest → text ≡ circumflex ∷ circumflex ∷ rest
+datatype_mark-sound text rest e =
+    option_and_then_some (after_char circumflex) (after_char circumflex text) rest e (λ other first second.
+    after_char-some circumflex text other first ∙ ap (λ xs. circumflex ∷ xs) (after_char-some circumflex other rest second))
+
+datatype_mark-blank : (c : ℕ) (cs : List ℕ) → is_blank c ≡ true → read_datatype_mark (c ∷ cs) ≡ None
+unfolding is_blank
+datatype_mark-blank c cs is = ap (λ found. marked (found >>= after_char circumflex)) (blank_is_other circumflex refl c cs is)
+
+pub datatype_mark-reads : Reads (IsMark (circumflex ∷ circumflex ∷ [])) read_datatype_mark
+datatype_mark-reads =
+    reads_exactly (IsMark (circumflex ∷ circumflex ∷ [])) read_datatype_mark
+    (λ text rest v e. (circumflex ∷ circumflex ∷ [], refl, datatype_mark-sound text rest (marked-some (after_datatype_mark text) rest v e)))
+    (λ front more v is. rw is refl) refl datatype_mark-blank

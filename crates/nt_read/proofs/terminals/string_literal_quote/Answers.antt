@@ -1,0 +1,34 @@
+use Rattle.std.proofs.Common.{ap, ◌∙◌}
+use Rattle.std.specs.Str.{chars}
+use Rattle.bm_term.specs.Marks.{quotation_mark}
+use Rattle.bm_term.specs.Text.{after_char}
+use Rattle.nt_read.specs.Found.{is_raw_char, lexical_of}
+use Rattle.nt_read.proofs.RawLaws.{begins_with_run, run_has_rest, string_run_is_read, string_run_is_canonical}
+use Rattle.nt_read.proofs.terminals.string_literal_quote.Goals as goal
+
+pub before-requires : goal.before-requires
+before-requires c =
+    run_has_rest is_raw_char quotation_mark quotation_mark (chars c.args.text.now) (chars c.in-Some.rest.now)
+    (begins_with_run is_raw_char quotation_mark quotation_mark (chars c.args.text.now) (chars c.in_ok-body.body.now) (chars c.in-Some.rest.now)
+    c.in_ok-body.ensures.chars (c.in-Some.ensures.chars ∙ ap (after_char quotation_mark) c.after_raw_chars.ensures))
+
+pub returns-in-Some-clause-chars : goal.returns-in-Some-clause-chars
+unfolding lexical_of
+returns-in-Some-clause-chars c =
+    rw c.before-in-Some.ensures
+    (string_run_is_read (chars c.args.text.now) (chars c.in-Some.rest.now)
+    (begins_with_run is_raw_char quotation_mark quotation_mark (chars c.args.text.now) (chars c.in_ok-body.body.now) (chars c.in-Some.rest.now)
+    c.in_ok-body.ensures.chars (c.in-Some.ensures.chars ∙ ap (after_char quotation_mark) c.after_raw_chars.ensures)))
+
+pub returns-in-Some-clause-is : goal.returns-in-Some-clause-is
+unfolding lexical_of
+returns-in-Some-clause-is c = (
+  (
+    c.before-in-Some.utf8,
+    rw c.before-in-Some.ensures
+        (string_run_is_canonical (chars c.args.text.now) (chars c.in-Some.rest.now)
+        (begins_with_run is_raw_char quotation_mark quotation_mark (chars c.args.text.now) (chars c.in_ok-body.body.now) (chars c.in-Some.rest.now)
+        c.in_ok-body.ensures.chars (c.in-Some.ensures.chars ∙ ap (after_char quotation_mark) c.after_raw_chars.ensures))),
+  ),
+  c.in-Some.ensures.utf8,
+)

@@ -1,0 +1,68 @@
+-- The terminals of N-Triples, each with what it stands for. N-Triples 1.1, section 7.
+use Rattle.std.specs.Prelude.{◌≡◌, ℕ, Bool, ◌&&◌, ◌||◌, ◌==◌, not, ◌⊎◌, IsTrue, List, [], ◌∷◌, ◌++◌, map}
+use Rattle.std.specs.Char.{to_ascii_lowercase}
+use Rattle.std.specs.List.{list_all}
+use Rattle.bm_term.specs.Marks.{tab, space, line_feed, carriage_return, quotation_mark, colon, less_than, greater_than, at_sign, backslash, low_line}
+use Rattle.bm_term.specs.Classes.{is_scalar, is_irichar, is_letter, is_alphanumeric}
+use Rattle.bm_term.specs.Names.{IsLanguageTag}
+use Rattle.bm_term.specs.Repetition.{Star}
+use Rattle.bm_term.specs.Canonical.{IsLabel}
+use Rattle.bm_term.specs.Text.{IsLongest}
+use Rattle.nt_read.specs.Escapes.{IsEchar, IsUchar}
+
+-- IRICHAR | UCHAR: the text stands for the character, which in both cases is a member of IRICHAR
+abbrev pub IsIriPiece : List ℕ → ℕ → Type 0
+IsIriPiece text c = IsTrue (is_irichar c) × ((text ≡ c ∷ []) ⊎ IsUchar text c)
+
+-- IRIREF ::= '<' (IRICHAR | UCHAR)* '>', with the characters of the IRI
+abbrev pub IsIriRef : List ℕ → List ℕ → Type 0
+IsIriRef text iri = (body : List ℕ) × Star IsIriPiece body iri × (text ≡ less_than ∷ (body ++ greater_than ∷ []))
+
+-- [^ " \ LF CR]: every character but these four
+unfoldable pub is_string_char : ℕ → Bool
+is_string_char c =
+    is_scalar c && not (c == quotation_mark || c == backslash || c == line_feed || c == carriage_return)
+
+-- [^ " \ LF CR] | ECHAR | UCHAR: the text stands for the character
+abbrev pub IsStringPiece : List ℕ → ℕ → Type 0
+IsStringPiece text c = (IsTrue (is_string_char c) × (text ≡ c ∷ [])) ⊎ (IsEchar text c ⊎ IsUchar text c)
+
+-- STRING_LITERAL_QUOTE ::= '"' ([^ " \ LF CR] | ECHAR | UCHAR)* '"', with the lexical form
+abbrev pub IsString : List ℕ → List ℕ → Type 0
+IsString text lexical =
+    (body : List ℕ) × Star IsStringPiece body lexical × (text ≡ quotation_mark ∷ (body ++ quotation_mark ∷ []))
+
+-- LANGTAG ::= '@' [a-zA-Z]+ ('-' [a-zA-Z0-9]+)*, with the tag in lower case
+abbrev pub IsLangtag : List ℕ → List ℕ → Type 0
+IsLangtag text tag =
+    (written : List ℕ) × IsLanguageTag is_letter is_alphanumeric written × (tag ≡ map to_ascii_lowercase written)
+    × (text ≡ at_sign ∷ written)
+
+-- BLANK_NODE_LABEL ::= '_:' (PN_CHARS_U | [0-9]) ((PN_CHARS | '.')* PN_CHARS)?, with the label
+abbrev pub IsBlankNodeLabel : List ℕ → List ℕ → Type 0
+IsBlankNodeLabel text label = IsLabel label × (text ≡ low_line ∷ colon ∷ label)
+
+-- a terminal that is always written so, and stands for nothing more
+abbrev pub IsMark : List ℕ → List ℕ → Unit {0} → Type 0
+IsMark mark text value = text ≡ mark
+
+-- white space
+unfoldable pub is_blank : ℕ → Bool
+is_blank c = c == space || c == tab
+
+abbrev pub AreBlanks : List ℕ → Type 0
+AreBlanks blanks = IsTrue (list_all is_blank blanks)
+
+-- a text of the rule, with what it stands for
+abbrev pub HasValue : {V : Type 0} → (List ℕ → V → Type 0) → List ℕ → Type 0
+HasValue Rule text = (value : _) × Rule text value
+
+-- The whole begins with white space and a terminal, which is the longest text of the rule there. It stands for the
+-- value, and the rest follows it.
+pub record Terminal {V : Type 0} (Rule : List ℕ → V → Type 0) (whole : List ℕ) (value : V) (rest : List ℕ) : Type 0 where
+  pub blanks : List ℕ
+  pub text : List ℕ
+  pub are_blanks : AreBlanks blanks
+  pub is : Rule text value
+  pub longest : IsLongest (HasValue Rule) text rest
+  pub split : whole ≡ blanks ++ (text ++ rest)

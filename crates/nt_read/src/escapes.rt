@@ -1,0 +1,145 @@
+// Escapes, and the characters of an IRI and of a string, raw or escaped.
+ghost use Rattle.std.specs.Prelude.{◌≡◌, ◌<◌, ◌^◌, ◌==◌, Option, Some, None, if◌then◌else◌, IfSome};
+ghost use Rattle.std.specs.Option.{option_map};
+ghost use Rattle.std.specs.Str.{chars, IsUtf8};
+ghost use Rattle.bm_term.specs.Classes.{is_hex};
+ghost use Rattle.nt_read.specs.Escapes.{hex_value};
+ghost use Rattle.nt_read.specs.Terminals.{is_string_char};
+ghost use Rattle.nt_read.specs.TerminalReading.{hex_digit, four_digits, eight_digits, uchar_number, read_uchar, escaped_irichar, iri_piece, read_escape, string_piece};
+
+use bm_term::{echar_value, is_irichar, split_char};
+
+// HEX: the value of a digit.
+#[tactic(auto, unfolding(crate::specs::Escapes::hex_value, bm_term::specs::Classes::is_hex, bm_term::specs::Classes::is_digit))]
+fn hex_value(c: char) -> Option<u32>
+    ensures value { result ≡ (if is_hex c then Some (hex_value c) else None) }
+    ensures bound { IfSome result (λ value. value < 16) }
+{
+    match c {
+        '0'..='9' => Some(c as u32 - 0x30),
+        'A'..='F' => Some(c as u32 - 0x37),
+        'a'..='f' => Some(c as u32 - 0x57),
+        _ => None,
+    }
+}
+
+// The value of a digit in front, and the text after it.
+#[tactic(auto, unfolding(crate::specs::TerminalReading::hex_digit))]
+fn hex_digit(text: &str) -> Option<(u32, &str)>
+    ensures chars { option_map (λ p. (p.0, chars p.1.now)) result ≡ hex_digit (chars text.now) }
+    ensures utf8 { IfSome result (λ p. IsUtf8 p.1.now) }
+    ensures bound { IfSome result (λ p. p.0 < 16) }
+{
+    let (c, rest) = split_char(text)?;
+    let value = hex_value(c)?;
+    Some((value, rest))
+}
+
+// HEX HEX HEX HEX: the number that the digits spell.
+#[tactic(auto, unfolding(crate::specs::TerminalReading::four_digits))]
+fn four_digits(text: &str) -> Option<(u32, &str)>
+    ensures chars { option_map (λ p. (p.0, chars p.1.now)) result ≡ four_digits (chars text.now) }
+    ensures utf8 { IfSome result (λ p. IsUtf8 p.1.now) }
+    ensures bound { IfSome result (λ p. p.0 < 65536) }
+{
+    let (a, rest) = hex_digit(text)?;
+    let (b, rest) = hex_digit(rest)?;
+    let (c, rest) = hex_digit(rest)?;
+    let (d, rest) = hex_digit(rest)?;
+    Some((4096 * a + 256 * b + 16 * c + d, rest))
+}
+
+#[tactic(auto, unfolding(crate::specs::TerminalReading::eight_digits))]
+fn eight_digits(text: &str) -> Option<(u32, &str)>
+    ensures chars { option_map (λ p. (p.0, chars p.1.now)) result ≡ eight_digits (chars text.now) }
+    ensures utf8 { IfSome result (λ p. IsUtf8 p.1.now) }
+{
+    let (high, rest) = four_digits(text)?;
+    let (low, rest) = four_digits(rest)?;
+    Some((65536 * high + low, rest))
+}
+
+// The number of a UCHAR, behind its backslash and this letter.
+#[tactic(auto, unfolding(crate::specs::TerminalReading::uchar_number))]
+fn uchar_number(letter: char, text: &str) -> Option<(u32, &str)>
+    ensures chars { option_map (λ p. (p.0, chars p.1.now)) result ≡ uchar_number letter (chars text.now) }
+    ensures utf8 { IfSome result (λ p. IsUtf8 p.1.now) }
+{
+    match letter {
+        'u' => four_digits(text),
+        'U' => eight_digits(text),
+        _ => None,
+    }
+}
+
+// UCHAR, behind its backslash and this letter.
+#[tactic(auto, unfolding(crate::specs::TerminalReading::read_uchar))]
+fn uchar(letter: char, text: &str) -> Option<(char, &str)>
+    ensures chars { option_map (λ p. (p.0, chars p.1.now)) result ≡ read_uchar letter (chars text.now) }
+    ensures utf8 { IfSome result (λ p. IsUtf8 p.1.now) }
+{
+    let (number, rest) = uchar_number(letter, text)?;
+    let c = char::from_u32(number)?;
+    Some((c, rest))
+}
+
+// UCHAR in an IRI, behind its backslash: it gives a member of IRICHAR.
+#[tactic(auto, unfolding(crate::specs::TerminalReading::escaped_irichar))]
+fn escaped_irichar(text: &str) -> Option<(char, &str)>
+    ensures chars { option_map (λ p. (p.0, chars p.1.now)) result ≡ escaped_irichar (chars text.now) }
+    ensures utf8 { IfSome result (λ p. IsUtf8 p.1.now) }
+{
+    let (letter, rest) = split_char(text)?;
+    let (c, rest) = uchar(letter, rest)?;
+    if !is_irichar(c as u32) {
+        return None;
+    }
+    Some((c, rest))
+}
+
+/// IRICHAR | UCHAR: the character in front of an IRI, and the text after it.
+#[tactic(auto, unfolding(crate::specs::TerminalReading::iri_piece))]
+pub fn iri_piece(text: &str) -> Option<(char, &str)>
+    ensures chars { option_map (λ p. (p.0, chars p.1.now)) result ≡ iri_piece (chars text.now) }
+    ensures utf8 { IfSome result (λ p. IsUtf8 p.1.now) }
+{
+    match split_char(text) {
+        Some(('\\', rest)) => escaped_irichar(rest),
+        Some((c, rest)) if is_irichar(c as u32) => Some((c, rest)),
+        _ => None,
+    }
+}
+
+// ECHAR | UCHAR, behind the backslash.
+#[tactic(auto, unfolding(crate::specs::TerminalReading::read_escape))]
+fn escape(text: &str) -> Option<(char, &str)>
+    ensures chars { option_map (λ p. (p.0, chars p.1.now)) result ≡ read_escape (chars text.now) }
+    ensures utf8 { IfSome result (λ p. IsUtf8 p.1.now) }
+{
+    let (letter, rest) = split_char(text)?;
+    match echar_value(letter) {
+        Some(c) => Some((c, rest)),
+        None => uchar(letter, rest),
+    }
+}
+
+// [^ " \ LF CR]
+#[tactic(auto, unfolding(crate::specs::Terminals::is_string_char))]
+fn is_string_char(c: char) -> bool
+    ensures { result ≡ is_string_char c }
+{
+    !matches!(c, '"' | '\\' | '\n' | '\r')
+}
+
+/// [^ " \ LF CR] | ECHAR | UCHAR: the character in front of a string, and the text after it.
+#[tactic(auto, unfolding(crate::specs::TerminalReading::string_piece))]
+pub fn string_piece(text: &str) -> Option<(char, &str)>
+    ensures chars { option_map (λ p. (p.0, chars p.1.now)) result ≡ string_piece (chars text.now) }
+    ensures utf8 { IfSome result (λ p. IsUtf8 p.1.now) }
+{
+    match split_char(text) {
+        Some(('\\', rest)) => escape(rest),
+        Some((c, rest)) if is_string_char(c) => Some((c, rest)),
+        _ => None,
+    }
+}
