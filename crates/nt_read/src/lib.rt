@@ -13,3 +13,6 @@ pub use file_laws::{
 pub use line::{LineFault, read_line};
 pub use lines::{CARRIAGE_RETURN, FeedFault, LINE_FEED};
 pub use reader::Reader;
+
+#[cfg(test)]
+mod tests;

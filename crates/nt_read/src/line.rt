@@ -1,5 +1,4 @@
-ghost use Rattle.std.specs.Prelude.{◌≡◌, Ok, Some, Result, Option};
-ghost use Rattle.bm_term.specs.declared.triple.Triple.{Triple};
+ghost use Rattle.std.specs.Prelude.{IfOk, IfSome};
 ghost use Rattle.bm_term.specs.Triple.{IsRdfTriple};
 ghost use Rattle.nt_read.specs.LineReading.{IsReadAs, line_reading};
 
@@ -17,7 +16,7 @@ pub enum LineFault {
 #[tactic(auto, unfolding(crate::specs::LineReading::line_reading))]
 pub fn read_line(alloc: Global, line: &[u8]) -> Result<Option<Triple>, LineFault>
     ensures reads { IsReadAs (line_reading line.now) result }
-    ensures triple { (t : Triple) → result ≡ Ok (Some t) → IsRdfTriple t }
+    ensures triple { IfOk result (λ answer. IfSome answer (λ triple. IsRdfTriple triple)) }
 {
     let _ = alloc;
     match line {
