@@ -4,7 +4,7 @@ use Rattle.memchr.specs.Find.{is_byte2}
 use Rattle.nt_read.specs.Lines.{before_first_line, lines_behind}
 
 -- a byte that ends no line
-plain : (b : ℕ) (bytes : List ℕ) → (is_byte2 10 13 b ≡ true → ⊥) → lines_behind false (b ∷ bytes) ≡ before_first_line b (lines_behind false bytes)
+pub plain : (b : ℕ) (bytes : List ℕ) → (is_byte2 10 13 b ≡ true → ⊥) → lines_behind false (b ∷ bytes) ≡ before_first_line b (lines_behind false bytes)
 plain b bytes h =
     elim (b == 10) as (λ lf. ((lf || b == 13) ≡ true → ⊥) → (if lf then [] ∷ lines_behind false bytes else (if b == 13 then [] ∷ lines_behind true bytes else before_first_line b (lines_behind false bytes))) ≡ before_first_line b (lines_behind false bytes)) [
       | true ↦ λ h. absurd (h refl)

@@ -1,5 +1,5 @@
 -- The lines of a file: its bytes, cut at LF, at CR LF and at CR alone. N-Triples 1.1, section 7: EOL.
-use Rattle.std.specs.Prelude.{◌≡◌, ◌≢◌, ℕ, ◌+◌, Bool, true, false, ◌==◌, if◌then◌else◌, List, [], ◌∷◌, ◌++◌, length, All, Option, Some, None}
+use Rattle.std.specs.Prelude.{◌≡◌, ◌≢◌, ◌⊎◌, ℕ, ◌+◌, Bool, true, false, ◌==◌, if◌then◌else◌, List, [], ◌∷◌, ◌++◌, length, All, Option, Some, None}
 use Rattle.std.specs.List.{flat_map}
 use Rattle.bm_term.specs.declared.triple.Triple.{Triple}
 use Rattle.nt_read.specs.declared.lines.TheConstants.{LINE_FEED, CARRIAGE_RETURN}
@@ -22,6 +22,22 @@ lines_behind after_cr (b ∷ bytes) =
 -- the lines of a file
 unfoldable pub lines_of : List ℕ → List (List ℕ)
 lines_of bytes = lines_behind false bytes
+
+-- no byte of a line is LF or CR
+abbrev pub HasNoEnd : List ℕ → Type 0
+HasNoEnd line = All (λ b. (b ≢ LINE_FEED) × (b ≢ CARRIAGE_RETURN)) line
+
+-- a line end, and what stands behind it: LF, CR LF, or a CR behind which no LF stands
+abbrev pub IsLineEnd : List ℕ → List ℕ → Type 0
+IsLineEnd end behind =
+    (end ≡ LINE_FEED ∷ []) ⊎ ((end ≡ CARRIAGE_RETURN ∷ LINE_FEED ∷ [])
+    ⊎ ((end ≡ CARRIAGE_RETURN ∷ []) × ((rest : List ℕ) → behind ≢ LINE_FEED ∷ rest)))
+
+-- the bytes are these lines, with a line end behind each but the last
+pub data AreLines : List ℕ → List (List ℕ) → Type 0 where
+  last : (line : List ℕ) → HasNoEnd line → AreLines line (line ∷ [])
+  more : (bytes line end behind : List ℕ) (lines : List (List ℕ)) → HasNoEnd line → IsLineEnd end behind
+      → bytes ≡ line ++ (end ++ behind) → AreLines behind lines → AreLines bytes (line ∷ lines)
 
 -- the lines of what is left behind a line end, if there was one
 abbrev pub lines_left : Option (List ℕ) → List (List ℕ)

@@ -2,9 +2,14 @@
 ghost use Rattle.std.specs.Prelude.{◌≡◌, ◌≢◌, ◌↔◌, ℕ, List, Result, Some, None, All, fold};
 ghost use Rattle.std.specs.List.{concat};
 ghost use Rattle.nt_read.specs.LineReading.{bad, line_reading};
-ghost use Rattle.nt_read.specs.Lines.{lines_of, first_bad, IsFirstBadLine};
+ghost use Rattle.nt_read.specs.Lines.{lines_of, AreLines, first_bad, IsFirstBadLine};
 ghost use Rattle.nt_read.specs.Feeding.{with_bytes};
 ghost use Rattle.nt_read.specs.declared.lines.FeedFault.{FeedFault};
+
+/// The lines of bytes are those parts of them that line ends stand between, and no other list is.
+pub fn lines_stand_between_line_ends()
+    ensures { (bytes : List ℕ) (lines : List (List ℕ)) → AreLines bytes lines ↔ (lines ≡ lines_of bytes) }
+{}
 
 /// The first bad line is bad, and no line before it is.
 pub fn first_bad_is_the_first_bad_line()

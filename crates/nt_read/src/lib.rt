@@ -8,7 +8,8 @@ mod lines;
 mod reader;
 
 pub use file_laws::{
-    first_bad_is_the_first_bad_line, no_first_bad_is_no_bad_line, pieces_are_fed_as_one,
+    first_bad_is_the_first_bad_line, lines_stand_between_line_ends, no_first_bad_is_no_bad_line,
+    pieces_are_fed_as_one,
 };
 pub use line::{LineFault, read_line};
 pub use lines::{CARRIAGE_RETURN, FeedFault, LINE_FEED};
