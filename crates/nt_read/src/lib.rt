@@ -16,4 +16,4 @@ pub use lines::{CARRIAGE_RETURN, FeedFault, LINE_FEED};
 pub use reader::Reader;
 
 #[cfg(test)]
-mod tests;
+mod reader_tests;
