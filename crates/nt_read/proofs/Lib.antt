@@ -1,5 +1,5 @@
 pub mod Cuts
 pub mod Examples
 pub mod Fronts
-pub mod Laws
+pub mod FirstBad
 pub mod Splits

@@ -1,4 +1,4 @@
-use Rattle.nt_read.proofs.Laws.{first_bad-found}
+use Rattle.nt_read.proofs.FirstBad.{first_bad-found}
 use Rattle.nt_read.proofs.file_laws.first_bad_is_the_first_bad_line.Goals as goal
 
 pub returns : goal.returns

@@ -1,4 +1,4 @@
-use Rattle.nt_read.proofs.Laws.{pieces_are_fed}
+use Rattle.nt_read.proofs.FirstBad.{pieces_are_fed}
 use Rattle.nt_read.proofs.file_laws.pieces_are_fed_as_one.Goals as goal
 
 pub returns : goal.returns
