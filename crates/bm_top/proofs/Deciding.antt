@@ -3,22 +3,22 @@ use Rattle.std.proofs.Common.{◌≡◌, ℕ, List, Some, None, Err, ap}
 use Rattle.bm_term.specs.Graph.{graph_of}
 use Rattle.alg_model.specs.declared.query.Query.{Query}
 use Rattle.alg_model.specs.Answers.{answers_of}
-use Rattle.bm_top.specs.declared.plain_data.DataFault.{DataFault}
-use Rattle.bm_top.specs.declared.plain_data.DataFault.TheVariants as data_faults
+use Rattle.nt_read.specs.declared.lines.FeedFault.{FeedFault}
+use Rattle.nt_read.specs.declared.lines.FeedFault.TheVariants as feed_faults
 use Rattle.bm_top.specs.declared.plain_query.QueryFault.{QueryFault}
 use Rattle.bm_top.specs.declared.plain_query.QueryFault.TheVariants as query_faults
 use Rattle.bm_top.specs.Decide.{IsDecided, from_data, from_query}
-use Rattle.bm_top.specs.PlainData.{first_bad, lines_of, triples_of}
+use Rattle.nt_read.specs.Lines.{first_bad, lines_of, triples_of}
 use Rattle.bm_top.specs.PlainQuery.{query_of}
 use Rattle.bm_top.specs.Reading.{IsDataOf, IsReadOf}
 use Rattle.bm_top.specs.Tsv.{tsv_text}
 use Rattle.bm_top.specs.Verdict.{answered, answering, deciding, decided}
 
 -- the data was refused
-pub decided-data : (bytes text : List ℕ) (fault : DataFault) → IsDataOf bytes (Err fault) → IsDecided (decided bytes text) (Err (from_data fault))
+pub decided-data : (bytes text : List ℕ) (fault : FeedFault) → IsDataOf bytes (Err fault) → IsDecided (decided bytes text) (Err (from_data fault))
 unfolding decided
-decided-data bytes text (data_faults.BadLine line) h = ap (λ bad. deciding bad (lines_of bytes) (query_of text)) h
-decided-data bytes text data_faults.Memory h = tt
+decided-data bytes text (feed_faults.NotNTriples line) h = ap (λ bad. deciding bad (lines_of bytes) (query_of text)) h
+decided-data bytes text feed_faults.Memory h = tt
 
 -- the query was refused
 pub decided-query : (bytes text : List ℕ) (fault : QueryFault) → first_bad bytes ≡ None → IsReadOf (query_of text) (Err fault) → IsDecided (decided bytes text) (Err (from_query fault))

@@ -1,11 +1,12 @@
 pub mod Answered
+pub mod DataTriples
 pub mod Deciding
 pub mod Distinct
 pub mod Examples
+pub mod IriTests
+pub mod LinePieces
 pub mod Lists
 pub mod Parts
-pub mod LinePieces
-pub mod PlainLines
 pub mod PlainQueries
 pub mod PlainVars
 pub mod Promises

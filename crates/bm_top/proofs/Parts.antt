@@ -37,11 +37,6 @@ parts_at-none mark (x ∷ xs) h =
       | false ↦ λ h. ap (before_first_part x) (parts_at-none mark xs (omega arith))
     ] h
 
--- a byte more in the first part makes no more parts
-longer : (x : ℕ) (parts : List (List ℕ)) (n : ℕ) → length parts ≤ n → 1 ≤ n → length (before_first_part x parts) ≤ n
-longer x [] n h one = one
-longer x (part ∷ parts) n h one = h
-
 -- there is a part
 some_part : (mark : ℕ) (xs : List ℕ) → parts_at mark xs ≡ [] → ⊥
 some_part mark [] h = cc
@@ -50,11 +45,6 @@ some_part mark (x ∷ xs) h =
       | true ↦ λ h. cc
       | false ↦ λ h. elim (parts_at mark xs) as (λ parts. before_first_part x parts ≡ [] → ⊥) [ [] ↦ λ h. cc | part ∷ parts ↦ λ h. cc ] h
     ] h
-
-one_before : (x : ℕ) (xs : List ℕ) (parts : List (List ℕ)) (part : List ℕ) → ((p : List ℕ) → parts ≡ p ∷ [] → p ≡ xs) → (parts ≡ [] → ⊥) → before_first_part x parts ≡ part ∷ [] → part ≡ x ∷ xs
-one_before x xs [] part is some h = absurd (some refl)
-one_before x xs (p ∷ []) part is some h = let e : p ≡ xs = is p refl in cc
-one_before x xs (p ∷ q ∷ parts) part is some h = absurd (cc)
 
 -- at the first place of the mark
 pub parts_at-found : (mark : ℕ) (xs : List ℕ) (at : ℕ) → Some at ≡ position (λ b. b == mark) xs → parts_at mark xs ≡ take at xs ∷ parts_at mark (drop (at + 1) xs)
@@ -71,24 +61,6 @@ parts_at-whole mark xs h =
       | true ↦ λ _ h. absurd (cc)
       | false ↦ λ past _. parts_at-none mark xs (ltb-false _ _ past)
     ] refl h
-
--- there is a part more than there are marks, so there are at most as many as bytes and one
-pub length-parts_at : (mark : ℕ) (xs : List ℕ) → length (parts_at mark xs) ≤ length xs + 1
-length-parts_at mark [] = omega arith
-length-parts_at mark (x ∷ xs) =
-    elim (x == mark) as (λ b. length (if b then [] ∷ parts_at mark xs else before_first_part x (parts_at mark xs)) ≤ length (x ∷ xs) + 1) [
-      | true ↦ omega (arith, length-parts_at mark xs)
-      | false ↦ omega (arith, longer x (parts_at mark xs) (length xs + 1) (length-parts_at mark xs) (omega arith))
-    ]
-
--- where there is one part, it is the whole
-pub parts_at-one : (mark : ℕ) (xs part : List ℕ) → parts_at mark xs ≡ part ∷ [] → part ≡ xs
-parts_at-one mark [] part h = cc
-parts_at-one mark (x ∷ xs) part h =
-    elim (x == mark) as (λ b. (if b then [] ∷ parts_at mark xs else before_first_part x (parts_at mark xs)) ≡ part ∷ [] → part ≡ x ∷ xs) [
-      | true ↦ λ h. absurd (some_part mark xs (cc))
-      | false ↦ λ h. one_before x xs (parts_at mark xs) part (λ p. parts_at-one mark xs p) (some_part mark xs) h
-    ] h
 
 -- what is left has a part
 pub parts_left-some : (mark : ℕ) (rest : Option (Bor (List ℕ))) → is_none rest ≡ false → (length (parts_left mark (option_copied rest)) == 0) ≡ false

@@ -4,15 +4,15 @@ use Rattle.std.specs.declared.alloc.Global.{Global}
 use Rattle.bm_top.specs.declared.decide.Refusal.{Refusal}
 use Rattle.bm_top.specs.declared.decide.Refusal.TheVariants as refusals
 use Rattle.bm_top.specs.declared.ending.TheConstants.{NOT_PLAIN}
-use Rattle.bm_top.specs.declared.plain_data.DataFault.{DataFault}
-use Rattle.bm_top.specs.declared.plain_data.DataFault.TheVariants as data_faults
+use Rattle.nt_read.specs.declared.lines.FeedFault.{FeedFault}
+use Rattle.nt_read.specs.declared.lines.FeedFault.TheVariants as feed_faults
 use Rattle.bm_top.specs.declared.plain_query.QueryFault.{QueryFault}
 use Rattle.bm_top.specs.declared.plain_query.QueryFault.TheVariants as query_faults
 use Rattle.bm_top.specs.Verdict.{Verdict, answered, refused, bad_line_line}
 
-abbrev pub from_data : DataFault → Refusal
-from_data (data_faults.BadLine line) = refusals.BadLine line
-from_data data_faults.Memory = refusals.Memory
+abbrev pub from_data : FeedFault → Refusal
+from_data (feed_faults.NotNTriples line) = refusals.BadLine line
+from_data feed_faults.Memory = refusals.Memory
 
 abbrev pub from_query : QueryFault → Refusal
 from_query query_faults.NotPlain = refusals.NotPlain

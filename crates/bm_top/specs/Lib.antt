@@ -2,7 +2,6 @@ pub mod Command
 pub mod Decide
 pub mod Ending
 pub mod Pieces
-pub mod PlainData
 pub mod PlainQuery
 pub mod Reading
 pub mod RowOrder

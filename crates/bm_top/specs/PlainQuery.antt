@@ -14,8 +14,7 @@ use Rattle.alg_model.specs.declared.pattern.Pattern.TheVariants as patterns
 use Rattle.alg_model.specs.declared.query.Query.{Query}
 use Rattle.alg_model.specs.Pattern.{algebra_of, HasVarsBelow}
 use Rattle.bm_top.specs.Pieces.{parts_at}
-use Rattle.bm_top.specs.declared.plain_query.TheConstants.{SELECT, STAR, OPEN, CLOSE, CLOSE_AND_END, STOP, QUESTION, MAX_VARIABLES, MAX_PATTERNS}
-use Rattle.bm_top.specs.declared.plain_data.TheConstants.{SPACE}
+use Rattle.bm_top.specs.declared.plain_query.TheConstants.{SPACE, SELECT, STAR, OPEN, CLOSE, CLOSE_AND_END, STOP, QUESTION, MAX_VARIABLES, MAX_PATTERNS}
 
 -- whether two texts are the same
 abbrev pub is_text : List ℕ → List ℕ → Bool

@@ -5,8 +5,7 @@ use Rattle.std.specs.List.{flat_map, join_with_byte}
 use Rattle.alg_model.specs.declared.var.Var.{Var}
 use Rattle.alg_model.specs.declared.query.Query.{Query}
 use Rattle.alg_model.specs.Row.{Row}
-use Rattle.bm_top.specs.declared.tsv.TheConstants.{TAB}
-use Rattle.bm_top.specs.declared.plain_data.TheConstants.{LINE_FEED}
+use Rattle.bm_top.specs.declared.tsv.TheConstants.{TAB, LINE_FEED}
 use Rattle.bm_top.specs.declared.plain_query.TheConstants.{QUESTION}
 
 -- parts with a tab between each two, and a line end

@@ -5,11 +5,11 @@ use Rattle.std.specs.FinMap.{get}
 use Rattle.bm_term.specs.Graph.{graph_of}
 use Rattle.alg_model.specs.declared.query.Query.{Query}
 use Rattle.alg_model.specs.Answers.{answers_of}
+use Rattle.nt_read.specs.Lines.{first_bad, lines_of, triples_of}
 use Rattle.bm_world.specs.Meanings.{Files}
 use Rattle.bm_top.specs.declared.ending.TheConstants.{USAGE, READ_FAULT, LIMIT, IS_LONGER, BYTES, BAD_LINE, NOT_PLAIN, LINE_END}
 use Rattle.bm_top.specs.declared.steps.TheConstants.{MAX_DATA_BYTES, MAX_QUERY_BYTES}
 use Rattle.bm_top.specs.Command.{Request, ask, request_of}
-use Rattle.bm_top.specs.PlainData.{first_bad, lines_of, triples_of}
 use Rattle.bm_top.specs.PlainQuery.{query_of}
 use Rattle.bm_top.specs.Tsv.{tsv_text}
 

@@ -1,12 +1,12 @@
-ghost use Rattle.std.specs.Prelude.{◌<◌, ◌^◌, length};
 ghost use Rattle.bm_top.specs.Verdict.{decided};
 ghost use Rattle.bm_top.specs.Decide.{IsDecided, from_data, from_query};
 
 use crate::answers::answers;
+use crate::data::read_data;
 use crate::graph::graph;
-use crate::plain_data::{DataFault, read_data};
 use crate::plain_query::{QueryFault, read_query};
 use crate::tsv::tsv;
+use nt_read::FeedFault;
 use std::alloc::{AllocError, Global};
 
 /// Why there is no text to print.
@@ -17,16 +17,16 @@ pub(crate) enum Refusal {
     Memory,
 }
 
-impl From<DataFault> for Refusal {
+impl From<FeedFault> for Refusal {
     ghost use Rattle.std.specs.Prelude.{◌≡◌};
     ghost use Rattle.bm_top.specs.Decide.{from_data};
 
     ghost from_gives = { λ fault refusal. refusal ≡ from_data fault };
 
-    fn from(fault: DataFault) -> Self {
+    fn from(fault: FeedFault) -> Self {
         match fault {
-            DataFault::BadLine { line } => Refusal::BadLine { line },
-            DataFault::Memory => Refusal::Memory,
+            FeedFault::NotNTriples { line } => Refusal::BadLine { line },
+            FeedFault::Memory => Refusal::Memory,
         }
     }
 }
@@ -57,9 +57,8 @@ impl From<AllocError> for Refusal {
 }
 
 /// The text that answers a query over data, or why there is none: the first bad line, and then the query.
-pub(crate) fn decide(alloc: Global, data: &[u8], query: &[u8]) -> Result<Vec<u8>, Refusal>
-    requires { length data.now < 2 ^ 63 }
-    ensures { IsDecided (decided data.now query.now) result }
+pub(crate) fn decide(alloc: Global, data: Vec<u8>, query: &[u8]) -> Result<Vec<u8>, Refusal>
+    ensures { IsDecided (decided data.items query.now) result }
 {
     let triples = read_data(alloc, data)?;
     let query = read_query(alloc, query)?;

@@ -1,16 +1,19 @@
-ghost use Rattle.std.specs.Prelude.{◌≡◌, ◌==◌, ℕ, ◌<◌, ◌≤◌, [], ◌∷◌, All, length, IfOk, MatchOption};
+ghost use Rattle.std.specs.Prelude.{◌≡◌, ◌==◌, ℕ, ◌<◌, ◌≤◌, [], ◌∷◌, All, length, IfOk, MatchOption, true, false};
 ghost use Rattle.std.specs.List.{list_all};
 ghost use Rattle.std.specs.Option.{option_copied};
+ghost use Rattle.bm_term.specs.Iri.{reads_iri};
+ghost use Rattle.bm_term.specs.TermRef.{text_of};
 ghost use Rattle.bm_top.specs.Pieces.{parts_at, parts_left};
 ghost use Rattle.bm_top.specs.PlainQuery.{numbered, variable_place, iri_place, node_place, pattern_of, ends_query, patterns_of, query_of, IsPlaceBelow, IsPatternBelow, IsPlain};
 ghost use Rattle.bm_top.specs.PlainQuery as spec;
 ghost use Rattle.bm_top.specs.Reading.{IsReadOf, IsReadWith};
 
 use crate::pieces::split_at_byte;
-use crate::plain_data::{SPACE, plain_iri};
 use alg_model::{Columns, Names, PatList, Pattern, Place, Query, TriplePat, Var};
-use bm_term::Term;
+use bm_term::{Term, TermRef, is_iri};
 use std::alloc::{AllocError, AllocFailed, Global};
+
+pub const SPACE: u8 = b' ';
 
 pub const SELECT: &[u8] = b"SELECT";
 
@@ -169,6 +172,17 @@ fn read_pattern(
         object,
         number,
     })
+}
+
+// The term with this text, where it is that of an IRI of ASCII.
+fn plain_iri(text: &[u8]) -> Option<TermRef<'_>>
+    ensures { MatchOption result (reads_iri text.now ≡ false) (λ iri. (reads_iri text.now ≡ true) × (text_of iri ≡ text.now)) }
+{
+    if is_iri(text) {
+        Some(TermRef::from_canonical(text))
+    } else {
+        None
+    }
 }
 
 fn read_predicate(alloc: Global, word: &[u8]) -> Result<Place, QueryFault>

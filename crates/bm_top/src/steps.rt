@@ -1,4 +1,4 @@
-ghost use Rattle.std.specs.Prelude.{◌≡◌, ◌<◌, ◌≤◌, ◌^◌, ◌⊎◌, length, None};
+ghost use Rattle.std.specs.Prelude.{◌≡◌, None};
 ghost use Rattle.std.specs.Option.{option_map};
 ghost use Rattle.bm_world.specs.World.{Step, Rose};
 ghost use Rattle.bm_top.specs.Command.{ask, requested};
@@ -49,7 +49,7 @@ fn perform_ask<'a, W: World>(
     ensures say_faults_stay { W.say_faults world.new ≡ W.say_faults world.old }
 {
     match read_all(alloc, world, data, MAX_DATA_BYTES) {
-        Ok(bytes) => ask_of_data(alloc, &bytes, query, world),
+        Ok(bytes) => ask_of_data(alloc, bytes, query, world),
         Err(end) => read_ending(end, data, MAX_DATA_BYTES),
     }
 }
@@ -57,14 +57,13 @@ fn perform_ask<'a, W: World>(
 // The steps of `ask` that are left when the data has been read.
 fn ask_of_data<'a, W: World>(
     alloc: Global,
-    data: &[u8],
+    data: Vec<u8>,
     query: &'a str,
     world: &mut W,
 ) -> Ending<'a>
-    requires { length data.now < 2 ^ 63 }
     ensures step { Step (W.told world.old) (W.told world.new) (λ m n.
-        EndsSo (query_verdict m.files data.now query.now) result m n) }
-    ensures reason { HasReason (λ files. query_verdict files data.now query.now) (W.told world.old)
+        EndsSo (query_verdict m.files data.items query.now) result m n) }
+    ensures reason { HasReason (λ files. query_verdict files data.items query.now) (W.told world.old)
         (W.read_faults world.old) (W.read_faults world.new) (W.write_faults world.old) (W.write_faults world.new) result }
     ensures say_faults_stay { W.say_faults world.new ≡ W.say_faults world.old }
 {
@@ -77,13 +76,12 @@ fn ask_of_data<'a, W: World>(
 // The steps of `ask` that are left when both files have been read.
 fn print_decided<'a, W: World>(
     alloc: Global,
-    data: &[u8],
+    data: Vec<u8>,
     query: &[u8],
     world: &mut W,
 ) -> Ending<'a>
-    requires { length data.now < 2 ^ 63 }
-    ensures step { Step (W.told world.old) (W.told world.new) (EndsSo (decided data.now query.now) result) }
-    ensures reason { HasReason (λ files. decided data.now query.now) (W.told world.old)
+    ensures step { Step (W.told world.old) (W.told world.new) (EndsSo (decided data.items query.now) result) }
+    ensures reason { HasReason (λ files. decided data.items query.now) (W.told world.old)
         (W.read_faults world.old) (W.read_faults world.new) (W.write_faults world.old) (W.write_faults world.new) result }
     ensures say_faults_stay { W.say_faults world.new ≡ W.say_faults world.old }
 {

@@ -2,13 +2,14 @@ ghost use Rattle.std.specs.Prelude.{◌≡◌, ◌<◌, ◌∷◌, ◌++◌, if�
 ghost use Rattle.bm_top.specs.Tsv.{cell_text, marked_name, tsv_header, tsv_row, tsv_text};
 
 use crate::answer_row::AnswerRow;
-use crate::plain_data::LINE_FEED;
 use crate::plain_query::QUESTION;
 use alg_model::{Names, Query, Var};
 use bm_term::Term;
 use std::alloc::{AllocError, Global};
 
 pub const TAB: u8 = b'\t';
+
+pub const LINE_FEED: u8 = b'\n';
 
 /// The answers of a query as tab-separated values: a header, and then a line for each row.
 pub(crate) fn tsv(

@@ -29,7 +29,7 @@ fn ask(alloc: Global, words: &[&str], world: &mut MemWorld) -> Result<u8, AllocE
 }
 
 // A data file, a query and the text that answers it.
-const ANSWERS: [(&str, &str, &str); 14] = [
+const ANSWERS: [(&str, &str, &str); 20] = [
     (DATA, QUERY, ANSWER),
     (
         DATA,
@@ -82,6 +82,40 @@ const ANSWERS: [(&str, &str, &str); 14] = [
         "?9a\n<urn:a!>\n<urn:a>\n<urn:b>\n",
     ),
     ("<> <urn:p> <> .", "SELECT * { ?x <urn:p> <> }", "?x\n<>\n"),
+    // CR LF and CR end lines too; spaces, tabs and comments are no part of a triple.
+    (
+        "# people\r\n\t<urn:a> <urn:p> <urn:b> . # one\r\n\r\n<urn:b>\t<urn:p>\t<urn:c>\t.\r\n",
+        QUERY,
+        ANSWER,
+    ),
+    (
+        "<urn:a> <urn:p> <urn:b> .\r<urn:b> <urn:p> <urn:c> . \r",
+        QUERY,
+        ANSWER,
+    ),
+    (
+        "<urn:a> <urn:p> <urn:b> .\r\n# note\r\n<urn:a><urn:p><urn:b>.#x\r\n\t<urn:a> <urn:p> <urn:b> .",
+        "SELECT * { ?x <urn:p> ?y }",
+        "?x\t?y\n<urn:a>\t<urn:b>\n",
+    ),
+    // Blank nodes and literals. A tag is written in lower case.
+    (
+        "_:a.b <urn:p> _:c.\n<urn:s><urn:p>\"x\"@EN-us.\n",
+        "SELECT * { ?s <urn:p> ?o }",
+        "?s\t?o\n<urn:s>\t\"x\"@en-us\n_:a.b\t_:c\n",
+    ),
+    // The datatype of a plain literal may be written.
+    (
+        "<urn:s> <urn:p> \"x\" .\n<urn:s> <urn:p> \"x\"^^<http://www.w3.org/2001/XMLSchema#string> .\n",
+        "SELECT * { ?s <urn:p> ?o }",
+        "?s\t?o\n<urn:s>\t\"x\"\n",
+    ),
+    // Escapes and characters that are the same.
+    (
+        "<urn:s> <urn:p> \"\\u00E9\\t\" .\n<urn:s> <urn:p> \"é\\u0009\" .\n",
+        "SELECT * { ?s <urn:p> ?o }",
+        "?s\t?o\n<urn:s>\t\"é\\t\"\n",
+    ),
 ];
 
 #[test]
@@ -100,11 +134,12 @@ fn queries_are_answered(rt: HostRuntime) -> Result<(), Fail> {
 
 // A data file, a query, the status and the line that is complained.
 const REFUSALS: [(&str, &str, u8, &str); 17] = [
+    // A surrogate is no character.
     (
-        "<urn:a> <urn:p> <urn:b> .\n<urn:s> <urn:p> \"x\" .\n",
+        "<urn:a> <urn:p> <urn:b> .\n<urn:b> <urn:p> <urn:c> .\n<urn:s> <urn:p> \"\\uD800\" .\n",
         QUERY,
         2,
-        "data refused: line 2\n",
+        "data refused: line 3\n",
     ),
     (
         "<urn:a> <urn:p> <urn:b>\n",
@@ -113,19 +148,19 @@ const REFUSALS: [(&str, &str, u8, &str); 17] = [
         "data refused: line 1\n",
     ),
     (
-        "\n\n<urn:a>  <urn:p> <urn:b> .",
+        "\r\n\r\n<urn:a>  <urn:p> .",
         QUERY,
         2,
         "data refused: line 3\n",
     ),
     (
-        "<urn:a> <urn:p> <urn:b> .\r\n",
+        "<urn:a> <urn:p> <urn:b> .\rx",
         QUERY,
         2,
-        "data refused: line 1\n",
+        "data refused: line 2\n",
     ),
     (
-        "<urn:a> <urn:p> <urn:b> . \n",
+        "<urn:a> <urn:p> <urn:b> . x\n",
         QUERY,
         2,
         "data refused: line 1\n",
@@ -195,6 +230,17 @@ fn refusals_have_their_lines(rt: HostRuntime) -> Result<(), Fail> {
         assert!(rt; world.printed().is_empty(), "{data} {query}");
         assert!(rt; world.complained() == line.as_bytes(), "{data} {query}");
     }
+    Ok(())
+}
+
+#[test]
+fn a_line_that_is_not_utf_8_is_refused(rt: HostRuntime) -> Result<(), Fail> {
+    let alloc = rt.alloc();
+    let mut world = world_of(alloc, "", QUERY)?;
+    world.put_file("d", b"<urn:a> <urn:p> <urn:b> .\n\xFF\n".as_slice())?;
+    assert!(rt; ask(alloc, &["ask", "d", "q", "tsv"], &mut world)? == 2);
+    assert!(rt; world.printed().is_empty());
+    assert!(rt; world.complained() == b"data refused: line 2\n".as_slice());
     Ok(())
 }
 

@@ -1,22 +1,34 @@
-//! N-Triples, line by line: `read_line` reads what one line spells, which may be a triple, nothing, or
-//! bad. The grammar is in specs/: the escapes, the terminals and the line.
+//! The reader of N-Triples. `read_line` reads what one line spells, which may be a triple, nothing, or bad; a
+//! `Reader` reads the lines of a stream of bytes, and hands their triples to a `Taker`, one by one and in their
+//! order. The grammar is in specs/: the escapes, the terminals, the line, and the lines of a file.
 #![tactic(auto)]
 
 mod escapes;
+mod file_laws;
 mod found;
 mod laws;
 mod line;
+mod lines;
 mod places;
+mod reader;
 mod runs;
 mod statement;
 mod terminals;
 mod writing;
 
+pub use file_laws::{
+    first_bad_is_the_first_bad_line, lines_stand_between_line_ends, no_first_bad_is_no_bad_line,
+    pieces_are_fed_as_one,
+};
 pub use laws::{
     a_line_spells_one_triple, a_triple_is_something, spelled_triples_are_triples_of_rdf,
     the_reading_is_what_is_spelled,
 };
 pub use line::{LineFault, read_line};
+pub use lines::{CARRIAGE_RETURN, FeedFault, LINE_FEED};
+pub use reader::Reader;
 
+#[cfg(test)]
+mod reader_tests;
 #[cfg(test)]
 mod tests;

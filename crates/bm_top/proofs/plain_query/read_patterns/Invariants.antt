@@ -2,7 +2,7 @@ use Rattle.std.proofs.Common.{◌≡◌, ◌≤◌, [], length, All}
 use Rattle.std.specs.Option.{option_copied}
 use Rattle.bm_top.specs.Pieces.{parts_left}
 use Rattle.bm_top.specs.PlainQuery.{patterns_of, IsPatternBelow}
-use Rattle.bm_top.specs.declared.plain_data.TheConstants.{SPACE}
+use Rattle.bm_top.specs.declared.plain_query.TheConstants.{SPACE}
 use Rattle.bm_top.proofs.PlainQueries.{after}
 use Rattle.bm_top.proofs.plain_query.read_patterns.Given as goal
 

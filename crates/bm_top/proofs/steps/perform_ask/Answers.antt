@@ -9,14 +9,14 @@ unfolding request_verdict
 returns-in-Ok-clause-step g c =
     let small : length c.in-Ok.bytes.items ≤ 536870912 = omega (arith, c.in-Ok.bytes.ok, c.in-Ok.ensures.within) in
     Step-then c.in-Ok.ensures.step c.ask_of_data.ensures.step (λ m k n read ended.
-    EndsSo-reading c.args.data.now 536870912 (λ files bytes. query_verdict files bytes c.args.query.now) m k n c.in-Ok.bytes c.ask_of_data.result read small (rw c.deref.ensures.value at ended))
+    EndsSo-reading c.args.data.now 536870912 (λ files bytes. query_verdict files bytes c.args.query.now) m k n c.in-Ok.bytes c.ask_of_data.result read small ended)
 
 pub returns-in-Ok-clause-reason : goal.returns-in-Ok-clause-reason
 unfolding request_verdict
 returns-in-Ok-clause-reason g c =
     let small : length c.in-Ok.bytes.items ≤ 536870912 = omega (arith, c.in-Ok.bytes.ok, c.in-Ok.ensures.within) in
     HasReason-later c.args.data.now 536870912 (λ files bytes. query_verdict files bytes c.args.query.now) _ _ _ _ _ _ _ c.in-Ok.bytes c.ask_of_data.result c.in-Ok.ensures.later small c.in-Ok.ensures.step
-    (rw (c.deref.ensures.value, c.in-Ok.ensures.write_faults_stay) at c.ask_of_data.ensures.reason)
+    (rw c.in-Ok.ensures.write_faults_stay at c.ask_of_data.ensures.reason)
 
 pub returns-in-Err-clause-step : goal.returns-in-Err-clause-step
 unfolding request_verdict

@@ -6,4 +6,4 @@ use Rattle.bm_top.proofs.steps.print_decided.Goals as goal
 pub returns-in-Ok-clause-step : goal.returns-in-Ok-clause-step
 returns-in-Ok-clause-step g c =
     Step-weaken c.print_all.ensures.step (λ m n moved. rw c.print_ending.ensures
-    (EndsSo-printing (decided c.args.data.now c.args.query.now) c.in-Ok.text.items c.print_all.result m n c.in-Ok.ensures (rw c.deref.ensures.value at moved)))
+    (EndsSo-printing (decided c.args.data.items c.args.query.now) c.in-Ok.text.items c.print_all.result m n c.in-Ok.ensures (rw c.deref.ensures.value at moved)))

@@ -1,7 +1,7 @@
 use Rattle.std.proofs.Common.{◌∙◌}
 use Rattle.bm_term.proofs.PlainIris.{IsIriText-canonical}
-use Rattle.bm_top.proofs.PlainLines.{reads_iri-tested}
-use Rattle.bm_top.proofs.plain_data.plain_iri.Goals as goal
+use Rattle.bm_top.proofs.IriTests.{reads_iri-tested}
+use Rattle.bm_top.proofs.plain_query.plain_iri.Goals as goal
 
 pub from_canonical-requires : goal.from_canonical-requires
 from_canonical-requires c = ∣ IsIriText-canonical c.args.text.now (c.is_iri.ensures.0 c.if-is_iri.true) ∣₁

@@ -1,0 +1,114 @@
+-- The first bad line of a file, and pieces of a stream.
+use Rattle.std.proofs.Common.{◌≡◌, ◌≢◌, ◌↔◌, ℕ, suc, ◌+◌, true, false, if◌then◌else◌, List, [], ◌∷◌, ◌++◌, length, All, Some, None, Result, Ok, Err, fold, refl, sym, ◌∙◌, ap, append_assoc, arith}
+use Rattle.std.specs.List.{concat}
+use Rattle.std.proofs.lemmas.List.{append-nil}
+use Rattle.std.proofs.lemmas.List.Elements.{All-nil, All-cons}
+use Rattle.nt_read.specs.declared.lines.FeedFault.{FeedFault}
+use Rattle.nt_read.specs.LineReading.{LineReading, bad, nothing, spelled, line_reading}
+use Rattle.nt_read.specs.Lines.{lines_of, is_bad, first_bad, first_bad_from, IsFirstBadLine}
+use Rattle.nt_read.specs.Feeding.{with_bytes}
+
+-- pieces one after another are fed as one
+pub pieces_are_fed : (reader : Result (List ℕ) FeedFault) (pieces : List (List ℕ)) → fold with_bytes reader pieces ≡ with_bytes reader (concat pieces)
+pieces_are_fed (Ok bytes) [] = ap Ok (sym (append-nil bytes))
+pieces_are_fed (Ok bytes) (piece ∷ pieces) = pieces_are_fed (Ok (bytes ++ piece)) pieces ∙ ap Ok (append_assoc bytes piece (concat pieces))
+pieces_are_fed (Err fault) [] = refl
+pieces_are_fed (Err fault) (piece ∷ pieces) = pieces_are_fed (Err fault) pieces
+
+-- a line is bad, or it is not
+bad_tested : (reading : LineReading) → is_bad reading ≡ true → reading ≡ bad
+bad_tested bad h = refl
+bad_tested nothing h = absurd (cc)
+bad_tested (spelled triple) h = absurd (cc)
+
+good_tested : (reading : LineReading) → is_bad reading ≡ false → reading ≢ bad
+good_tested bad h = λ e. absurd (cc)
+good_tested nothing h = λ e. absurd (cc)
+good_tested (spelled triple) h = λ e. absurd (cc)
+
+not_bad : (reading : LineReading) → reading ≢ bad → is_bad reading ≡ false
+not_bad bad h = absurd (h refl)
+not_bad nothing h = refl
+not_bad (spelled triple) h = refl
+
+-- no line is bad
+abbrev pub NoneBad : List (List ℕ) → Type 0
+NoneBad lines = All (λ line. line_reading line ≢ bad) lines
+
+none_bad : (n : ℕ) (lines : List (List ℕ)) → first_bad_from n lines ≡ None → NoneBad lines
+none_bad n [] h = All-nil (λ line. line_reading line ≢ bad)
+none_bad n (line ∷ lines) h =
+    elim (is_bad (line_reading line)) as (λ b. is_bad (line_reading line) ≡ b → (if b then Some n else first_bad_from (n + 1) lines) ≡ None → NoneBad (line ∷ lines)) [
+      | true ↦ λ _ h. absurd (cc)
+      | false ↦ λ good h. All-cons (λ line. line_reading line ≢ bad) line lines (good_tested (line_reading line) good) (none_bad (n + 1) lines h)
+    ] refl h
+
+none_found : (n : ℕ) (lines : List (List ℕ)) → NoneBad lines → first_bad_from n lines ≡ None
+none_found n [] h = refl
+none_found n (line ∷ lines) h =
+    let good = not_bad (line_reading line) (h 0 line (omega arith)) in
+    rw good (none_found (n + 1) lines (λ k d below. h (suc k) d (omega arith)))
+
+-- where none of the first lines is bad and the next one is, it is the first
+first_found : (n : ℕ) (before : List (List ℕ)) (line : List ℕ) (behind : List (List ℕ)) → NoneBad before → line_reading line ≡ bad → first_bad_from n (before ++ line ∷ behind) ≡ Some (n + length before)
+first_found n [] line behind good here = rw here (ap Some (omega arith))
+first_found n (first ∷ before) line behind good here =
+    let here_good = not_bad (line_reading first) (good 0 first (omega arith)) in
+    let later = first_found (n + 1) before line behind (λ k d below. good (suc k) d (omega arith)) here in
+    rw here_good (later ∙ ap Some (omega arith))
+
+-- the lines before a first bad one, it, and those behind it
+record Found (n : ℕ) (lines : List (List ℕ)) (number : ℕ) : Type 0 where
+  before : List (List ℕ)
+  line : List ℕ
+  behind : List (List ℕ)
+  cut : lines ≡ before ++ line ∷ behind
+  place : number ≡ n + length before
+  none_before : NoneBad before
+  it_is_bad : line_reading line ≡ bad
+
+found_later : (n : ℕ) (first : List ℕ) (lines : List (List ℕ)) (number : ℕ) → line_reading first ≢ bad → Found (n + 1) lines number → Found n (first ∷ lines) number
+found_later n first lines number good later = record {
+  before = first ∷ later.before;
+  line = later.line;
+  behind = later.behind;
+  cut = ap (λ rest. first ∷ rest) later.cut;
+  place = omega (arith, later.place);
+  none_before = All-cons (λ line. line_reading line ≢ bad) first later.before good later.none_before;
+  it_is_bad = later.it_is_bad;
+}
+
+find_first : (n : ℕ) (lines : List (List ℕ)) (number : ℕ) → first_bad_from n lines ≡ Some number → Found n lines number
+find_first n [] number h = absurd (cc)
+find_first n (line ∷ lines) number h =
+    elim (is_bad (line_reading line)) as (λ b. is_bad (line_reading line) ≡ b → (if b then Some n else first_bad_from (n + 1) lines) ≡ Some number → Found n (line ∷ lines) number) [
+      | true ↦ λ is h. let same : n ≡ number = cc in record {
+        before = [];
+        line = line;
+        behind = lines;
+        cut = refl;
+        place = omega (arith, same);
+        none_before = All-nil (λ line. line_reading line ≢ bad);
+        it_is_bad = bad_tested (line_reading line) is;
+      }
+      | false ↦ λ good h. found_later n line lines number (good_tested (line_reading line) good) (find_first (n + 1) lines number h)
+    ] refl h
+
+pub first_bad-found : (bytes : List ℕ) (n : ℕ) → (first_bad bytes ≡ Some n) ↔ IsFirstBadLine bytes n
+unfolding first_bad
+first_bad-found bytes n = (
+  λ h. let found = find_first 1 (lines_of bytes) n h in record {
+    before = found.before;
+    line = found.line;
+    behind = found.behind;
+    cut = found.cut;
+    number = omega (arith, found.place);
+    none_before = found.none_before;
+    it_is_bad = found.it_is_bad;
+  },
+  λ is. rw is.cut (first_found 1 is.before is.line is.behind is.none_before is.it_is_bad ∙ ap Some (omega (arith, is.number))),
+)
+
+pub first_bad-none : (bytes : List ℕ) → (first_bad bytes ≡ None) ↔ NoneBad (lines_of bytes)
+unfolding first_bad
+first_bad-none bytes = (none_bad 1 (lines_of bytes), none_found 1 (lines_of bytes))
