@@ -38,13 +38,13 @@ fn project_rows(
     columns: &Columns,
 ) -> Result<Vec<AnswerRow>, AllocError>
     requires { All (λ row. All (λ column. column.0 < length row) columns.now) rows.now }
-    ensures { IfOk result (λ answers. answers.items ≡ map (project columns.now) rows.now) }
+    ensures { IfOk result (λ projected. projected.items ≡ map (project columns.now) rows.now) }
 {
-    let mut answers = Vec::new(alloc);
+    let mut projected = Vec::new(alloc);
     for row in 0..rows.len() {
-        answers.push(project_row(alloc, rows, row, columns)?)?;
+        projected.push(project_row(alloc, rows, row, columns)?)?;
     }
-    Ok(answers)
+    Ok(projected)
 }
 
 fn project_row(

@@ -11,6 +11,6 @@ returns c =
     let projected = c.in_ok-answers.answers.items in
     let sorted = c.sort.new.self.items in
     elim c.if-query.branch [
-      | then-query w ↦ rw w.answers-is (answers_of-distinct query graph rows projected sorted w.dedup.new.self.items w.if-query.true (search rules) c.in_ok-answers.ensures c.in_ok-sort.ensures.permutation c.in_ok-sort.ensures.sorted w.dedup.ensures.filtered)
-      | else-query w ↦ rw w.answers-is (answers_of-sorted query graph rows projected sorted w.if-query.false (search rules) c.in_ok-answers.ensures c.in_ok-sort.ensures.permutation c.in_ok-sort.ensures.sorted)
+      | then-query w ↦ let is = answers_of-distinct query graph rows projected sorted w.dedup.new.self.items w.if-query.true (search rules) c.in_ok-answers.ensures c.in_ok-sort.ensures.permutation c.in_ok-sort.ensures.sorted w.dedup.ensures.filtered in cc
+      | else-query w ↦ let is = answers_of-sorted query graph rows projected sorted w.if-query.false (search rules) c.in_ok-answers.ensures c.in_ok-sort.ensures.permutation c.in_ok-sort.ensures.sorted in cc
     ]
