@@ -1,5 +1,5 @@
 -- Worked examples, by computation: small patterns over a few triples, a solution, and queries within the limits.
-use Rattle.std.proofs.Common.{◌≡◌, ◌≢◌, ℕ, zero, suc, ◌<◌, List, [], ◌∷◌, get_or, All, Any, IsUtf8, IsAscii, Some, None, false, codes, refl, sym, ◌∙◌, ap, arith, lit≤, lit<}
+use Rattle.std.proofs.Common.{◌≡◌, ◌≢◌, ℕ, zero, suc, ◌<◌, List, [], ◌∷◌, get_or, All, Any, IsUtf8, IsAscii, Some, None, Bool, true, false, codes, refl, sym, ◌∙◌, ap, arith, lit≤, lit<}
 use Rattle.std.proofs.lemmas.List.Elements.{All-nil, All-cons, All-from_recursion}
 use Rattle.std.proofs.lemmas.Str.{IsUtf8-from_ascii}
 use Rattle.bm_term.specs.declared.triple.Triple.{Triple}
@@ -12,6 +12,7 @@ use Rattle.alg_model.specs.Row.{join}
 use Rattle.alg_model.specs.Pattern.{Basic, Joined, Optional, algebra_of}
 use Rattle.alg_model.specs.Eval.{as_terms, eval}
 use Rattle.alg_model.specs.Solution.{BindsJust, Makes, IsSolution}
+use Rattle.alg_model.specs.Answers.{answers_of}
 use Rattle.alg_model.specs.Limits.{KeepsLimits}
 use Rattle.alg_model.proofs.Lists.{Contains-head, Contains-single, AllPairs-append, AllPairs-option}
 
@@ -97,6 +98,20 @@ boxed_join list other p q = refl
 
 boxed_left_join : (list other : List TriplePat) → (p q : _) → algebra_of (patterns.LeftJoin' p (patterns.Bgp list) q (patterns.Bgp other)) ≡ Optional (Basic list) (Basic other)
 boxed_left_join list other p q = refl
+
+-- ---- answers
+
+-- SELECT ?x {?x p ?y}, with or without DISTINCT
+abbrev subjects : Bool → Query
+subjects distinct = record { names = codes "x" ∷ codes "y" ∷ []; pattern = patterns.Bgp (pattern x y 1 ∷ []); columns = record { 0 = 0 } ∷ []; distinct = distinct }
+
+-- over (b p a), (a p b), (a p c): in order, and a stands twice
+subjects_in_order : answers_of (subjects false) (triple b a ∷ triple a b ∷ triple a c ∷ []) ≡ (Some a ∷ []) ∷ (Some a ∷ []) ∷ (Some b ∷ []) ∷ []
+subjects_in_order = refl
+
+-- and once with DISTINCT, though the rows of the pattern differ
+subjects_distinct : answers_of (subjects true) (triple b a ∷ triple a b ∷ triple a c ∷ []) ≡ (Some a ∷ []) ∷ (Some b ∷ []) ∷ []
+subjects_distinct = refl
 
 -- a list of one item
 all-single : {X : Type 0} (P : X → Type 0) (item : X) → P item → All P (item ∷ [])
