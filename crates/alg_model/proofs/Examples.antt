@@ -1,5 +1,5 @@
 -- Worked examples, by computation: small patterns over a few triples, a solution, and queries within the limits.
-use Rattle.std.proofs.Common.{◌≡◌, ◌≢◌, ℕ, zero, suc, ◌<◌, List, [], ◌∷◌, get_or, All, Any, IsUtf8, IsAscii, Some, None, false, codes, refl, sym, ◌∙◌, ap, arith, lit≤, lit<}
+use Rattle.std.proofs.Common.{◌≡◌, ◌≢◌, ℕ, zero, suc, ◌<◌, List, [], ◌∷◌, get_or, All, Any, IsUtf8, IsAscii, Some, None, Bool, true, false, codes, refl, sym, ◌∙◌, ap, arith, lit≤, lit<}
 use Rattle.std.proofs.lemmas.List.Elements.{All-nil, All-cons, All-from_recursion}
 use Rattle.std.proofs.lemmas.Str.{IsUtf8-from_ascii}
 use Rattle.bm_term.specs.declared.triple.Triple.{Triple}
@@ -8,9 +8,11 @@ use Rattle.alg_model.specs.declared.pattern.Place.TheVariants as places
 use Rattle.alg_model.specs.declared.pattern.TriplePat.{TriplePat}
 use Rattle.alg_model.specs.declared.pattern.Pattern.TheVariants as patterns
 use Rattle.alg_model.specs.declared.query.Query.{Query}
-use Rattle.alg_model.specs.Pattern.{Basic, Joined, Optional}
+use Rattle.alg_model.specs.Row.{join}
+use Rattle.alg_model.specs.Pattern.{Basic, Joined, Optional, algebra_of}
 use Rattle.alg_model.specs.Eval.{as_terms, eval}
 use Rattle.alg_model.specs.Solution.{BindsJust, Makes, IsSolution}
+use Rattle.alg_model.specs.Answers.{answers_of}
 use Rattle.alg_model.specs.Limits.{KeepsLimits}
 use Rattle.alg_model.proofs.Lists.{Contains-head, Contains-single, AllPairs-append, AllPairs-option}
 
@@ -70,9 +72,46 @@ repeated_variable = refl
 optional_part : eval as_terms 3 (Optional (Basic (pattern x y 1 ∷ [])) (Basic (pattern y z 2 ∷ []))) (triple a b ∷ triple b c ∷ []) ≡ (Some a ∷ Some b ∷ Some c ∷ []) ∷ (Some b ∷ Some c ∷ None ∷ []) ∷ []
 optional_part = refl
 
+-- {?x p ?y} OPTIONAL {c p ?z}, where no triple has the subject c: the left rows
+optional_missing : eval as_terms 3 (Optional (Basic (pattern x y 1 ∷ [])) (Basic (pattern (term c) z 2 ∷ []))) (triple a b ∷ triple b c ∷ []) ≡ (Some a ∷ Some b ∷ None ∷ []) ∷ (Some b ∷ Some c ∷ None ∷ []) ∷ []
+optional_missing = refl
+
+-- {?x p b} OPTIONAL {b p ?y OPTIONAL {?y p ?z}}: the inner part has no partner for c, and the row a is merged with b c
+optional_nested : eval as_terms 3 (Optional (Basic (pattern x (term b) 1 ∷ [])) (Optional (Basic (pattern (term b) y 2 ∷ [])) (Basic (pattern y z 3 ∷ [])))) (triple a b ∷ triple b c ∷ []) ≡ (Some a ∷ Some c ∷ None ∷ []) ∷ []
+optional_nested = refl
+
+-- the Join of two optional parts: a variable that the left row leaves unbound is bound by the right row
+joined_optionals : eval as_terms 3 (Joined (Optional (Basic (pattern x y 1 ∷ [])) (Basic (pattern y z 2 ∷ []))) (Basic (pattern (term b) y 3 ∷ pattern (term a) z 4 ∷ []))) (triple a b ∷ triple b c ∷ []) ≡ (Some b ∷ Some c ∷ Some b ∷ []) ∷ []
+joined_optionals = refl
+
+-- a Join keeps rows that are alike: a b stands twice
+join_alike : join as_terms.same ((Some a ∷ None ∷ []) ∷ (None ∷ Some b ∷ []) ∷ []) ((None ∷ Some b ∷ []) ∷ (Some a ∷ None ∷ []) ∷ []) ≡ (Some a ∷ Some b ∷ []) ∷ (Some a ∷ None ∷ []) ∷ (None ∷ Some b ∷ []) ∷ (Some a ∷ Some b ∷ []) ∷ []
+join_alike = refl
+
 -- the Join of two patterns without a common variable: each pair
 cross_product : eval as_terms 2 (Joined (Basic (pattern x (term b) 1 ∷ [])) (Basic (pattern y (term c) 2 ∷ []))) (triple a b ∷ triple b c ∷ triple c b ∷ []) ≡ (Some a ∷ Some b ∷ []) ∷ (Some c ∷ Some b ∷ []) ∷ []
 cross_product = refl
+
+-- the code's Join and LeftJoin, whose sides stand in boxes
+boxed_join : (list other : List TriplePat) → (p q : _) → algebra_of (patterns.Join' p (patterns.Bgp list) q (patterns.Bgp other)) ≡ Joined (Basic list) (Basic other)
+boxed_join list other p q = refl
+
+boxed_left_join : (list other : List TriplePat) → (p q : _) → algebra_of (patterns.LeftJoin' p (patterns.Bgp list) q (patterns.Bgp other)) ≡ Optional (Basic list) (Basic other)
+boxed_left_join list other p q = refl
+
+-- ---- answers
+
+-- SELECT ?x {?x p ?y}, with or without DISTINCT
+abbrev subjects : Bool → Query
+subjects distinct = record { names = codes "x" ∷ codes "y" ∷ []; pattern = patterns.Bgp (pattern x y 1 ∷ []); columns = record { 0 = 0 } ∷ []; distinct = distinct }
+
+-- over (b p a), (a p b), (a p c): in order, and a stands twice
+subjects_in_order : answers_of (subjects false) (triple b a ∷ triple a b ∷ triple a c ∷ []) ≡ (Some a ∷ []) ∷ (Some a ∷ []) ∷ (Some b ∷ []) ∷ []
+subjects_in_order = refl
+
+-- and once with DISTINCT, though the rows of the pattern differ
+subjects_distinct : answers_of (subjects true) (triple b a ∷ triple a b ∷ triple a c ∷ []) ≡ (Some a ∷ []) ∷ (Some b ∷ []) ∷ []
+subjects_distinct = refl
 
 -- a list of one item
 all-single : {X : Type 0} (P : X → Type 0) (item : X) → P item → All P (item ∷ [])

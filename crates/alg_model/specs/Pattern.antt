@@ -15,6 +15,8 @@ pub data Algebra : Type 0 where
 -- what a pattern of the code is
 abbrev pub algebra_of : Pattern → Algebra
 algebra_of (patterns.Bgp list) = Basic list
+algebra_of (patterns.Join' p left q right) = Joined (algebra_of left) (algebra_of right)
+algebra_of (patterns.LeftJoin' p left q right) = Optional (algebra_of left) (algebra_of right)
 
 -- the variables of a place, of a triple pattern, and of a pattern, by number, as often as they occur
 abbrev pub place_vars : Place → List ℕ

@@ -1,8 +1,8 @@
-ghost use Rattle.std.specs.Prelude.{◌≡◌, ◌≢◌, ◌==◌, ◌++◌, List, length, All, AllPairs, IsPermutation, IfOk, OnOk};
+ghost use Rattle.std.specs.Prelude.{◌≡◌, ◌≢◌, ◌==◌, ◌++◌, [], ◌∷◌, List, length, All, AllPairs, IsPermutation, IfOk, OnOk};
 ghost use Rattle.std.specs.Option.{option_to_list};
 ghost use Rattle.std.specs.Cmp.Lexicographic.{pointwise};
 ghost use Rattle.std.specs.List.{filter_map};
-ghost use Rattle.alg_model.specs.Row.{both_rows, merged, join};
+ghost use Rattle.alg_model.specs.Row.{both_rows, merged, join, without_partner, left_join};
 ghost use Rattle.alg_model.specs.Pattern.{Basic, HasVarsBelow, algebra_of};
 ghost use Rattle.alg_model.specs.Eval.{as_terms, place_row, match_of, matches_of, bgp_rows, eval};
 ghost use Rattle.alg_model.specs.Solution.{AreSolutions};
@@ -41,6 +41,16 @@ fn pattern_rows(
 {
     match pattern {
         Pattern::Bgp(patterns) => basic_rows(alloc, vars, patterns.as_slice(), triples),
+        Pattern::Join(left, right) => {
+            let left = pattern_rows(alloc, left, vars, triples)?;
+            let right = pattern_rows(alloc, right, vars, triples)?;
+            joined(alloc, &left, &right)
+        }
+        Pattern::LeftJoin(left, right) => {
+            let left = pattern_rows(alloc, left, vars, triples)?;
+            let right = pattern_rows(alloc, right, vars, triples)?;
+            left_joined(alloc, left, &right)
+        }
     }
 }
 
@@ -130,6 +140,38 @@ fn joined(alloc: Global, left: &[Row], right: &[Row]) -> Result<Vec<Row>, AllocE
         join_row(alloc, row, right, &mut rows)?;
     }
     Ok(rows)
+}
+
+// The merges of compatible rows, and then the rows of the left side that have no partner.
+fn left_joined(alloc: Global, left: Vec<Row>, right: &[Row]) -> Result<Vec<Row>, AllocError>
+    ensures { IfOk result (λ rows. rows.items ≡ left_join (pointwise ◌==◌) left.items right.now) }
+{
+    let mut rows = Vec::new(alloc);
+    let mut alone = Vec::new(alloc);
+    for row in left {
+        left_join_row(alloc, row, right, &mut rows, &mut alone)?;
+    }
+    rows.append(&mut alone)?;
+    Ok(rows)
+}
+
+// The merges of one row with the rows that are compatible with it, or the row itself where none is.
+fn left_join_row(
+    alloc: Global,
+    row: Row,
+    right: &[Row],
+    rows: &mut Vec<Row>,
+    alone: &mut Vec<Row>,
+) -> Result<(), AllocError>
+    ensures merged { OnOk result (rows.new.items ≡ rows.old.items ++ filter_map (merged (pointwise ◌==◌) row) right.now) }
+    ensures alone { OnOk result (alone.new.items ≡ alone.old.items ++ without_partner (pointwise ◌==◌) (row ∷ []) right.now) }
+{
+    let before = rows.len();
+    join_row(alloc, &row, right, rows)?;
+    if rows.len() == before {
+        alone.push(row)?;
+    }
+    Ok(())
 }
 
 // The merges of one row with the rows that are compatible with it.

@@ -1,4 +1,4 @@
-ghost use Rattle.std.specs.Prelude.{◌≡◌, ◌<◌, ◌==◌, [], ◌∷◌, ◌++◌, length, slice_get, OnOk, OnErr, Some};
+ghost use Rattle.std.specs.Prelude.{◌≡◌, ◌<◌, ◌==◌, [], ◌∷◌, ◌++◌, length, slice_get, IfOk, OnOk, OnErr, Some};
 
 use crate::Var;
 use bm_term::Term;
@@ -22,10 +22,35 @@ pub struct TriplePat {
     pub number: u16,
 }
 
-/// A graph pattern (SPARQL 1.1 Query, section 18.2).
+/// A graph pattern (SPARQL 1.1 Query, section 18.2): a basic graph pattern, the Join of two patterns, or
+/// the LeftJoin of a pattern and an optional part.
 #[derive(Debug, Drop)]
 pub enum Pattern {
     Bgp(PatList),
+    Join(Box<Pattern>, Box<Pattern>),
+    LeftJoin(Box<Pattern>, Box<Pattern>),
+}
+
+impl Pattern {
+    ghost use Rattle.alg_model.specs.Pattern.{Joined, Optional, algebra_of};
+
+    /// The Join of two patterns.
+    pub fn join(alloc: Global, left: Pattern, right: Pattern) -> Result<Pattern, AllocError>
+        ensures { IfOk result (λ pattern. algebra_of pattern ≡ Joined (algebra_of left) (algebra_of right)) }
+    {
+        let left = Box::new(alloc, left)?;
+        let right = Box::new(alloc, right)?;
+        Ok(Pattern::Join(left, right))
+    }
+
+    /// The LeftJoin of a pattern and an optional part.
+    pub fn left_join(alloc: Global, left: Pattern, right: Pattern) -> Result<Pattern, AllocError>
+        ensures { IfOk result (λ pattern. algebra_of pattern ≡ Optional (algebra_of left) (algebra_of right)) }
+    {
+        let left = Box::new(alloc, left)?;
+        let right = Box::new(alloc, right)?;
+        Ok(Pattern::LeftJoin(left, right))
+    }
 }
 
 /// A list of triple patterns.

@@ -1,5 +1,5 @@
 ghost use Rattle.std.specs.Prelude.{◌≡◌, ◌≢◌, ◌<◌, length, All, AllPairs, IfOk, IsTrue, flat_map};
-ghost use Rattle.alg_model.specs.Pattern.{place_vars, triple_vars};
+ghost use Rattle.alg_model.specs.Pattern.{HasVarsBelow, algebra_of, place_vars, triple_vars};
 
 use crate::{Columns, Names, PatList, Pattern, Place, RowList, TriplePat, Var, eval_plain};
 use bm_term::{Term, TermRef, Triple};
@@ -51,6 +51,15 @@ fn pat_list(alloc: Global, table: &[[&str; 3]]) -> Result<PatList, Fail> {
         patterns.push(triple_pat(alloc, texts)?)?;
     }
     Ok(patterns)
+}
+
+fn bgp(alloc: Global, table: &[[&str; 3]]) -> Result<Pattern, Fail> {
+    Ok(Pattern::Bgp(pat_list(alloc, table)?))
+}
+
+// The LeftJoin of a basic graph pattern and an optional part.
+fn optional(alloc: Global, left: &[[&str; 3]], right: Pattern) -> Result<Pattern, Fail> {
+    Ok(Pattern::left_join(alloc, bgp(alloc, left)?, right)?)
 }
 
 fn differ(triple: &Triple, other: &Triple) -> bool
@@ -115,20 +124,34 @@ fn are_below(patterns: &[TriplePat], vars: u8) -> bool
     true
 }
 
-// The rows of a basic graph pattern over triples.
-fn basic_rows(
+// Whether all variables of a pattern are below `vars`.
+fn is_below(pattern: &Pattern, vars: u8) -> bool
+    ensures { IsTrue result → HasVarsBelow vars (algebra_of pattern.now) }
+{
+    match pattern {
+        Pattern::Bgp(patterns) => are_below(patterns.as_slice(), vars),
+        Pattern::Join(left, right) | Pattern::LeftJoin(left, right) => {
+            if !is_below(left, vars) {
+                return false;
+            }
+            is_below(right, vars)
+        }
+    }
+}
+
+// The rows of a pattern over triples.
+fn rows_of(
     rt: &impl Abort,
     alloc: Global,
     vars: u8,
-    table: &[[&str; 3]],
+    pattern: &Pattern,
     triples: &[Triple],
 ) -> Result<RowList, Fail>
     ensures { IfOk result (λ rows. All (λ row. length row ≡ vars) rows) }
 {
-    let patterns = pat_list(alloc, table)?;
-    assert!(rt; are_below(patterns.as_slice(), vars));
+    assert!(rt; is_below(pattern, vars));
     assert!(rt; each_once(triples));
-    Ok(eval_plain(alloc, &Pattern::Bgp(patterns), vars, triples)?)
+    Ok(eval_plain(alloc, pattern, vars, triples)?)
 }
 
 // A row as a line: its terms in a row, with `-` for a cell that is unbound.
@@ -166,8 +189,20 @@ fn expect_rows(
     triples: &[[&str; 3]],
     want: &[&str],
 ) -> Result<(), Fail> {
+    expect_pattern(rt, alloc, vars, &bgp(alloc, patterns)?, triples, want)
+}
+
+// The rows of a pattern are these, in the order of their bytes.
+fn expect_pattern(
+    rt: &impl Abort,
+    alloc: Global,
+    vars: u8,
+    pattern: &Pattern,
+    triples: &[[&str; 3]],
+    want: &[&str],
+) -> Result<(), Fail> {
     let triples = triple_list(alloc, triples)?;
-    let rows = basic_rows(rt, alloc, vars, patterns, &triples)?;
+    let rows = rows_of(rt, alloc, vars, pattern, &triples)?;
     let lines = lines(alloc, &rows, vars)?;
     assert_eq!(rt; rows.is_empty(), want.is_empty());
     assert_eq!(rt; lines.len(), want.len());
@@ -217,6 +252,77 @@ fn no_common_variable_gives_each_pair(rt: HostRuntime) -> Result<(), Fail> {
         "<b><c><b><c>",
     ];
     expect_rows(&rt, rt.alloc(), 4, &patterns, &CHAIN, &want)
+}
+
+// Three triples, one behind another.
+const LONG_CHAIN: [[&str; 3]; 3] = [
+    ["<a>", "<p>", "<b>"],
+    ["<b>", "<p>", "<c>"],
+    ["<c>", "<p>", "<d>"],
+];
+
+#[test]
+fn a_left_join_in_a_left_join(rt: HostRuntime) -> Result<(), Fail> {
+    let alloc = rt.alloc();
+    let inner = optional(
+        alloc,
+        &[["?1", "<p>", "?2"]],
+        bgp(alloc, &[["?2", "<p>", "?3"]])?,
+    )?;
+    let pattern = optional(alloc, &[["?0", "<p>", "?1"]], inner)?;
+    let want = ["<a><b><c><d>", "<b><c><d>-", "<c><d>--"];
+    expect_pattern(&rt, alloc, 4, &pattern, &LONG_CHAIN, &want)
+}
+
+#[test]
+fn a_left_join_of_a_left_join(rt: HostRuntime) -> Result<(), Fail> {
+    let alloc = rt.alloc();
+    let first = optional(
+        alloc,
+        &[["?0", "<p>", "?1"]],
+        bgp(alloc, &[["?1", "<p>", "?2"]])?,
+    )?;
+    let pattern = Pattern::left_join(alloc, first, bgp(alloc, &[["<b>", "<p>", "?2"]])?)?;
+    let want = ["<a><b><c>", "<b><c><d>", "<c><d><c>"];
+    expect_pattern(&rt, alloc, 3, &pattern, &LONG_CHAIN, &want)
+}
+
+#[test]
+fn no_row_of_the_optional_part(rt: HostRuntime) -> Result<(), Fail> {
+    let alloc = rt.alloc();
+    let left = [["?0", "<p>", "?1"]];
+    let missing = optional(alloc, &left, bgp(alloc, &[["?1", "<q>", "?2"]])?)?;
+    expect_pattern(&rt, alloc, 3, &missing, &CHAIN, &["<a><b>-", "<b><c>-"])?;
+    let empty = optional(alloc, &left, bgp(alloc, &[])?)?;
+    expect_pattern(&rt, alloc, 2, &empty, &CHAIN, &["<a><b>", "<b><c>"])
+}
+
+// The right side binds a variable that the left side left unbound.
+#[test]
+fn a_join_of_two_optionals(rt: HostRuntime) -> Result<(), Fail> {
+    let alloc = rt.alloc();
+    let left = optional(
+        alloc,
+        &[["?0", "<p>", "?1"]],
+        bgp(alloc, &[["?1", "<p>", "?2"]])?,
+    )?;
+    let right = optional(
+        alloc,
+        &[["<b>", "<p>", "?1"]],
+        bgp(alloc, &[["<a>", "<p>", "?2"]])?,
+    )?;
+    let pattern = Pattern::join(alloc, left, right)?;
+    expect_pattern(&rt, alloc, 3, &pattern, &CHAIN, &["<b><c><b>"])
+}
+
+#[test]
+fn a_long_chain_of_joins(rt: HostRuntime) -> Result<(), Fail> {
+    let alloc = rt.alloc();
+    let mut pattern = bgp(alloc, &[["?0", "<p>", "?1"]])?;
+    for _ in 0..600 {
+        pattern = Pattern::join(alloc, pattern, bgp(alloc, &[["?0", "<p>", "?1"]])?)?;
+    }
+    expect_pattern(&rt, alloc, 2, &pattern, &CHAIN, &["<a><b>", "<b><c>"])
 }
 
 #[test]

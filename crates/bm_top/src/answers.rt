@@ -1,7 +1,6 @@
 ghost use Rattle.std.specs.Prelude.{◌≡◌, ◌<◌, ◌≤◌, ◌≢◌, [], false, map, length, slice_index_or, All, AllPairs, IfOk};
 ghost use Rattle.std.specs.Option.{option_map};
 ghost use Rattle.bm_term.specs.TermRef.{text_of};
-ghost use Rattle.bm_top.specs.PlainQuery.{IsPlain};
 ghost use Rattle.alg_model.specs.Answers.{project, answers_of};
 ghost use Rattle.alg_model.specs.Pattern.{algebra_of, HasVarsBelow};
 
@@ -10,13 +9,16 @@ use alg_model::{Columns, Query, RowList, eval_plain};
 use bm_term::{Term, TermRef, Triple};
 use std::alloc::{AllocError, Global};
 
-/// The answers of a query over a graph: the rows of its pattern, cut to its columns, in order.
+/// The answers of a query over a graph: the rows of its pattern, cut to its columns, in order, with each row
+/// once where the query says DISTINCT (SPARQL 1.1 Query, section 18.2.5).
 pub(crate) fn answers(
     alloc: Global,
     query: &Query,
     graph: &[Triple],
 ) -> Result<Vec<AnswerRow>, AllocError>
-    requires plain { IsPlain query.now }
+    requires few_names { length query.now.names ≤ 64 }
+    requires vars_below { HasVarsBelow (length query.now.names) (algebra_of query.now.pattern) }
+    requires columns_below { All (λ column. column.0 < length query.now.names) query.now.columns }
     requires each_once { AllPairs (λ t u. t ≢ u) graph.now }
     ensures { IfOk result (λ answers. answers.items ≡ answers_of query.now graph.now) }
 {
@@ -24,6 +26,9 @@ pub(crate) fn answers(
     let rows = eval_plain(alloc, &query.pattern, vars, graph)?;
     let mut answers = project_rows(alloc, &rows, &query.columns)?;
     answers.sort()?;
+    if query.distinct {
+        answers.dedup();
+    }
     Ok(answers)
 }
 
@@ -33,13 +38,13 @@ fn project_rows(
     columns: &Columns,
 ) -> Result<Vec<AnswerRow>, AllocError>
     requires { All (λ row. All (λ column. column.0 < length row) columns.now) rows.now }
-    ensures { IfOk result (λ answers. answers.items ≡ map (project columns.now) rows.now) }
+    ensures { IfOk result (λ projected. projected.items ≡ map (project columns.now) rows.now) }
 {
-    let mut answers = Vec::new(alloc);
+    let mut projected = Vec::new(alloc);
     for row in 0..rows.len() {
-        answers.push(project_row(alloc, rows, row, columns)?)?;
+        projected.push(project_row(alloc, rows, row, columns)?)?;
     }
-    Ok(answers)
+    Ok(projected)
 }
 
 fn project_row(
