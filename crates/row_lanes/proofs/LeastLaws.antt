@@ -1,0 +1,2 @@
+-- Laws of the least number.
+use Rattle.std.proofs.Common.{ℕ}

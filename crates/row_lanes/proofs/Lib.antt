@@ -1,0 +1,4 @@
+pub mod AndLaws
+pub mod SetLaws
+pub mod NumberLaws
+pub mod LeastLaws

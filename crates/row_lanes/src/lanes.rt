@@ -1,0 +1,55 @@
+//! Four words at a time.
+
+ghost use Rattle.std.specs.Prelude.{◌≡◌, ◌+◌, ◌*◌, ◌<◌, ◌≤◌, length, map, not, ◌==◌};
+ghost use Rattle.std.specs.Simd.Lanes.{chunk, mask_l};
+ghost use Rattle.row_lanes.specs.WordByWord.{IsAndBetween, AreZeroBetween};
+
+use std::simd::prelude::*;
+
+/// Leaves in four words of `into`, from `at` on, the bits that are in the same words of `other` too.
+#[inline(always)]
+fn and_four(into: &mut [u64], other: &[u64], at: usize)
+    requires into_has { at + 4 ≤ length into.old }
+    requires other_has { at + 4 ≤ length other.now }
+    ensures { IsAndBetween at (at + 4) into.old other.now into.new }
+{
+    let both = u64x4::from_slice(&into[at..]) & u64x4::from_slice(&other[at..]);
+    both.copy_to_slice(&mut into[at..]);
+}
+
+/// The same of the first `blocks` blocks of four words.
+pub fn and_blocks(into: &mut [u64], other: &[u64], blocks: usize)
+    requires into_has { 4 * blocks ≤ length into.old }
+    requires other_has { 4 * blocks ≤ length other.now }
+    ensures { IsAndBetween 0 (4 * blocks) into.old other.now into.new }
+{
+    for block in 0..blocks {
+        and_four(into, other, 4 * block);
+    }
+}
+
+/// Which of the four words from `at` on are not 0: bit `k` tells it of word `at + k`.
+#[inline(always)]
+fn set_among_four(words: &[u64], at: usize) -> u64
+    requires { at + 4 ≤ length words.now }
+    ensures { result ≡ mask_l (map (λ word. not (word == 0)) (chunk at 4 words.now)) }
+{
+    u64x4::from_slice(&words[at..])
+        .simd_ne(u64x4::splat(0))
+        .to_bitmask()
+}
+
+/// The first place, of `from` and each fourth one behind it, where one of four words is not 0 or fewer
+/// than four words are left.
+pub fn skip_zero_blocks(words: &[u64], from: usize) -> usize
+    requires { from ≤ length words.now }
+    ensures start { from ≤ result }
+    ensures end { result ≤ length words.now }
+    ensures passed { AreZeroBetween from result words.now }
+{
+    let mut at = from;
+    while words.len() - at >= 4 && set_among_four(words, at) == 0 {
+        at += 4;
+    }
+    at
+}
