@@ -2,3 +2,4 @@ pub mod AndLaws
 pub mod SetLaws
 pub mod NumberLaws
 pub mod LeastLaws
+pub mod RowLaws

@@ -20,7 +20,7 @@ Contains-first : (x : ℕ) (xs : List ℕ) (n k : ℕ) → k < length (x ∷ xs)
 Contains-first x xs n zero lt at = inl at
 Contains-first x xs n (suc k) lt at = inr (k, omega arith, at)
 
-Contains-cons : (x : ℕ) (xs : List ℕ) (n : ℕ) → Contains (x ∷ xs) n ↔ ((x ≡ n) ⊎ Contains xs n)
+pub Contains-cons : (x : ℕ) (xs : List ℕ) (n : ℕ) → Contains (x ∷ xs) n ↔ ((x ≡ n) ⊎ Contains xs n)
 Contains-cons x xs n =
     (λ (k, lt, at). Contains-first x xs n k lt at, λ h. elim h [ inl same ↦ (0, omega arith, same) | inr (k, lt, at) ↦ (suc k, omega arith, at) ])
 

@@ -1,6 +1,5 @@
 use Rattle.std.proofs.Common.{◌≡◌, ◌+◌, arith}
 use Rattle.row_lanes.proofs.AndLaws.{IsAndBetween-one, IsAndBetween-none, IsAndBetween-then}
-use Rattle.row_lanes.specs.WordByWord.{IsAndBetween}
 use Rattle.row_lanes.proofs.words.and_between.Goals as goal
 
 pub loop-i-init : goal.loop-i-init

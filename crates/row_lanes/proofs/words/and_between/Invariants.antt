@@ -1,4 +1,3 @@
-use Rattle.std.proofs.Common.{◌≤◌}
 use Rattle.row_lanes.specs.WordByWord.{IsAndBetween}
 use Rattle.row_lanes.proofs.words.and_between.Given as goal
 

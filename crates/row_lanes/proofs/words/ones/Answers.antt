@@ -1,4 +1,4 @@
-use Rattle.std.proofs.Common.{count_ones, ap, ◌∙◌, sym, get_or, arith}
+use Rattle.std.proofs.Common.{◌+◌, count_ones, ap, ◌∙◌, sym, get_or, arith}
 use Rattle.std.proofs.lemmas.Nat.{ones-le}
 use Rattle.std.proofs.lemmas.List.Sums.{sum_by_more}
 use Rattle.row_lanes.proofs.words.ones.Goals as goal
