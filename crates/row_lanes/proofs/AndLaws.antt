@@ -5,7 +5,6 @@ use Rattle.std.proofs.lemmas.List.{get_or_past}
 use Rattle.std.specs.Int.Bits.{and_zero_l, and_zero_r}
 use Rattle.std.proofs.lemmas.Simd.{length-chunk, get_or-chunk, get_or-put_chunk_below, get_or-put_chunk_at, get_or-put_chunk_above, get_or-zip2, length-zip2, none_from_empty_mask}
 use Rattle.std.specs.Simd.Lanes.{chunk, put_chunk, zip2, mask_l}
-
 use Rattle.row_lanes.specs.WordByWord.{IsAndBetween, IsCutAt, AreZeroBetween}
 
 -- four words that are computed as lanes

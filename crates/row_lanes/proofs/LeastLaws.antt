@@ -21,15 +21,15 @@ IsRestOf-masked n words mask word mask-is word-is = record {
       let whole = get_or words (n / 64) 0 in
       let high : mask ≡ 2 ^ 64 - 2 ^ (n % 64) = mask-is ∙ ones_shl 64 (n % 64) (omega arith) in
       let both : bit_at word i ≡ min (bit_at whole i) (bit_at (2 ^ 64 - 2 ^ (n % 64)) i) =
-          ap (λ w. bit_at w i) word-is ∙ bit_at_and whole mask i ∙ ap (λ m. min (bit_at whole i) (bit_at m i)) high in
+      ap (λ w. bit_at w i) word-is ∙ bit_at_and whole mask i ∙ ap (λ m. min (bit_at whole i) (bit_at m i)) high in
       let bit = bit_at-lt whole i in
       elim (cases_lt i (n % 64)) [
         | inl before ↦
-          let none = bit_at_mask_below (n % 64) 64 i before in
-          (λ h. absurd (omega arith), λ h. absurd (omega (arith, h.1)))
+            let none = bit_at_mask_below (n % 64) 64 i before in
+            (λ h. absurd (omega arith), λ h. absurd (omega (arith, h.1)))
         | inr from ↦
-          let one = bit_at_mask_inside (n % 64) 64 i from lt in
-          (λ h. (omega arith, omega arith), λ h. omega (arith, h.0))
+            let one = bit_at_mask_inside (n % 64) 64 i from lt in
+            (λ h. (omega arith, omega arith), λ h. omega (arith, h.0))
       ];
 }
 
@@ -58,14 +58,13 @@ IsLeastFrom-lowest n words place word least rest fits some first least-is =
     let inside : least % 64 ≡ t = omega arith in
     let had : Has words least = ap (λ k. bit_at (get_or words k 0) (least % 64)) at ∙ ap (bit_at (get_or words place 0)) inside ∙ bit.0 in
     let no_less : (x : ℕ) → Has words x → n ≤ x → least ≤ x = λ x has from.
-        elim (cases_order (x / 64) place) [
-          | inl same ↦
-            let x_bit : bit_at (get_or words place 0) (x % 64) ≡ 1 = ap (λ k. bit_at (get_or words k 0) (x % 64)) (sym same) ∙ has in
-            let set = (rest.bits (x % 64) (omega arith)).1 (x_bit, omega arith) in
-            elim (cases_lt (x % 64) t) [ inl lower ↦ let clear = lowest.2 (x % 64) lower in absurd (omega arith) | inr higher ↦ omega arith ]
-          | inr differs ↦ let later = first x has from in omega arith
-        ] in
-    (
+    elim (cases_order (x / 64) place) [
+      | inl same ↦
+          let x_bit : bit_at (get_or words place 0) (x % 64) ≡ 1 = ap (λ k. bit_at (get_or words k 0) (x % 64)) (sym same) ∙ has in
+          let set = (rest.bits (x % 64) (omega arith)).1 (x_bit, omega arith) in
+          elim (cases_lt (x % 64) t) [ inl lower ↦ let clear = lowest.2 (x % 64) lower in absurd (omega arith) | inr higher ↦ omega arith ]
+      | inr differs ↦ let later = first x has from in omega arith
+    ] in (
       omega (arith, bit.1),
       (Contains-numbers_in words least).1 had,
       All-from_contains (λ x. n ≤ x → least ≤ x) (numbers_in words) (λ x has from. no_less x ((Contains-numbers_in words x).0 has) from),
@@ -84,10 +83,10 @@ rest_is_later n words word high rest empty zero x has from =
       | inr later ↦ later
       | inl before ↦ absurd (elim (cases_order (x / 64) (n / 64)) [
         | inl same ↦
-          let x_bit : bit_at (get_or words (n / 64) 0) (x % 64) ≡ 1 = ap (λ k. bit_at (get_or words k 0) (x % 64)) (sym same) ∙ has in
-          let set = (rest.bits (x % 64) (omega arith)).1 (x_bit, omega arith) in
-          let clear : bit_at word (x % 64) ≡ 0 = ap (λ w. bit_at w (x % 64)) empty ∙ bit_at-zero (x % 64) in
-          omega arith
+            let x_bit : bit_at (get_or words (n / 64) 0) (x % 64) ≡ 1 = ap (λ k. bit_at (get_or words k 0) (x % 64)) (sym same) ∙ has in
+            let set = (rest.bits (x % 64) (omega arith)).1 (x_bit, omega arith) in
+            let clear : bit_at word (x % 64) ≡ 0 = ap (λ w. bit_at w (x % 64)) empty ∙ bit_at-zero (x % 64) in
+            omega arith
         | inr differs ↦ nothing_in_zero words x (zero (x / 64) (omega arith) before) has
       ])
     ]

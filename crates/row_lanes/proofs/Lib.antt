@@ -1,3 +1,4 @@
+pub mod Examples
 pub mod AndLaws
 pub mod SetLaws
 pub mod NumberLaws

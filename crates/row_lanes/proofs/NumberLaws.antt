@@ -116,18 +116,18 @@ length-filter_split p k m =
 first_word : (w : ℕ) (words : List ℕ) (k : ℕ) → k ≡ 64 → w < 2 ^ 64 → length (filter (λ n. eqb (bit_of (w ∷ words) n) 1) (range_with_len 0 k)) ≡ count_ones w
 first_word w words k width fits =
     let bit : (n : ℕ) → n < k → bit_of (w ∷ words) n ≡ bit_at w n = λ n lt.
-        let place : n / 64 ≡ 0 = omega arith in
-        let inside : n % 64 ≡ n = omega arith in
-        ap (λ i. bit_at (get_or (w ∷ words) i 0) (n % 64)) place ∙ ap (bit_at w) inside in
+    let place : n / 64 ≡ 0 = omega arith in
+    let inside : n % 64 ≡ n = omega arith in
+    ap (λ i. bit_at (get_or (w ∷ words) i 0) (n % 64)) place ∙ ap (bit_at w) inside in
     length-filter_moved (λ n. eqb (bit_of (w ∷ words) n) 1) (λ n. eqb (bit_at w n) 1) 0 0 k (λ n le lt. ap (λ i. eqb (bit_of (w ∷ words) i) 1) (zero-add n) ∙ ap (λ b. eqb b 1) (bit n (omega arith)))
     ∙ length-filter_bits k w (subst (λ (j : ℕ). w < 2 ^ j) (sym width) fits)
 
 other_words : (w : ℕ) (words : List ℕ) (k m : ℕ) → k ≡ 64 → length (filter (λ n. eqb (bit_of (w ∷ words) n) 1) (range_with_len k m)) ≡ length (filter (λ n. eqb (bit_of words n) 1) (range_with_len 0 m))
 other_words w words k m width =
     let bit : (n : ℕ) → bit_of (w ∷ words) (k + n) ≡ bit_of words n = λ n.
-        let place : (k + n) / 64 ≡ suc (n / 64) = omega arith in
-        let inside : (k + n) % 64 ≡ n % 64 = omega arith in
-        ap (λ i. bit_at (get_or (w ∷ words) i 0) ((k + n) % 64)) place ∙ ap (bit_at (get_or words (n / 64) 0)) inside in
+    let place : (k + n) / 64 ≡ suc (n / 64) = omega arith in
+    let inside : (k + n) % 64 ≡ n % 64 = omega arith in
+    ap (λ i. bit_at (get_or (w ∷ words) i 0) ((k + n) % 64)) place ∙ ap (bit_at (get_or words (n / 64) 0)) inside in
     ap (λ a. length (filter (λ n. eqb (bit_of (w ∷ words) n) 1) (range_with_len a m))) (sym (add-zero k))
     ∙ length-filter_moved (λ n. eqb (bit_of (w ∷ words) n) 1) (λ n. eqb (bit_of words n) 1) k 0 m (λ n le lt. ap (λ b. eqb b 1) (bit n))
 

@@ -26,8 +26,7 @@ IsAdding-next room n first words new whole left rest split added adding = record
   same = λ m.
       let front = Contains-cons n rest m in
       let there : Contains (n ∷ rest) m → Contains left m = subst (λ xs. Contains xs m) (sym split) in
-      let back : Contains left m → Contains (n ∷ rest) m = subst (λ xs. Contains xs m) split in
-      (
+      let back : Contains left m → Contains (n ∷ rest) m = subst (λ xs. Contains xs m) split in (
         λ h. (adding.same m).0 (elim h [
           | inl has ↦ elim ((added m).0 has) [ inl had ↦ inl had | inr is ↦ inr (there (front.1 (inl (sym is)))) ]
           | inr later ↦ inr (there (front.1 (inr later)))
