@@ -46,6 +46,7 @@ pub fn skip_zero_blocks(words: &[u64], from: usize) -> usize
     ensures start { from ≤ result }
     ensures end { result ≤ length words.now }
     ensures passed { AreZeroBetween from result words.now }
+    ensures stops { result + 4 ≤ length words.now → ¬ AreZeroBetween result (result + 4) words.now }
 {
     let mut at = from;
     while words.len() - at >= 4 && set_among_four(words, at) == 0 {
