@@ -1,11 +1,11 @@
--- Laws of what the loops do, word by word.
-use Rattle.std.proofs.Common.{◌≡◌, ◌≢◌, ℕ, ◌+◌, ◌-◌, ◌<◌, ◌≤◌, List, [], ◌∷◌, length, get_or, slice_set as set, refl, sym, ap, ◌∙◌, inl, inr, ◌⊎◌, true, false, not, eqb, eqb-true, map, arith, get_or-set_other, get_or-set_same, bit_and}
+-- Laws of words of which only the bits of other words are left.
+use Rattle.std.proofs.Common.{◌≡◌, ◌≢◌, ℕ, ◌+◌, ◌-◌, ◌<◌, ◌≤◌, List, length, get_or, slice_set as set, refl, sym, ap, ◌∙◌, inl, inr, ◌⊎◌, arith, get_or-set_other, get_or-set_same, bit_and}
 use Rattle.std.proofs.lemmas.Bool.{cases_lt}
 use Rattle.std.proofs.lemmas.List.{get_or_past}
 use Rattle.std.specs.Int.Bits.{and_zero_l, and_zero_r}
-use Rattle.std.proofs.lemmas.Simd.{length-chunk, get_or-chunk, get_or-put_chunk_below, get_or-put_chunk_at, get_or-put_chunk_above, get_or-zip2, length-zip2, none_from_empty_mask, Each1-from_get_or}
-use Rattle.std.specs.Simd.Lanes.{chunk, put_chunk, zip2, mask_l, Each1}
-use Rattle.row_lanes.specs.WordByWord.{IsAndBetween, IsCutAt, AreZeroBetween}
+use Rattle.std.proofs.lemmas.Simd.{length-chunk, get_or-chunk, get_or-put_chunk_below, get_or-put_chunk_at, get_or-put_chunk_above, get_or-zip2, length-zip2}
+use Rattle.std.specs.Simd.Lanes.{chunk, put_chunk, zip2}
+use Rattle.row_lanes.specs.WordByWord.{IsAndBetween, IsCutAt}
 
 -- four words that are computed as lanes
 pub IsAndBetween-four : (at : ℕ) (old other : List ℕ) → at + 4 ≤ length old → at + 4 ≤ length other → IsAndBetween at (at + 4) old other (put_chunk at old (zip2 bit_and (chunk at 4 old) (chunk at 4 other)))
@@ -65,27 +65,3 @@ and_words_from low high old other front back new up ends first second cut k =
         | inr short ↦ ap (λ x. bit_and (get_or old k 0) x) (get_or_past other k 0 (omega arith)) ∙ and_zero_r (get_or old k 0)
       ])
     ]
-
--- four words more that are 0
-pub AreZeroBetween-block : (from at mask : ℕ) (words : List ℕ) → at + 4 ≤ length words → mask ≡ mask_l (map (λ word. not (eqb word 0)) (chunk at 4 words)) → mask ≡ 0 → AreZeroBetween from at words → AreZeroBetween from (at + 4) words
-AreZeroBetween-block from at mask words room lanes empty passed k low high =
-    elim (cases_lt k at) [
-      | inl before ↦ passed k low before
-      | inr here ↦ zero_from_test (get_or words k 0) (none_from_empty_mask (λ word. not (eqb word 0)) words at 4 0 room (sym lanes ∙ empty) k here high)
-    ]
-  where
-    zero_from_test : (word : ℕ) → not (eqb word 0) ≡ false → word ≡ 0
-    zero_from_test word test = eqb-true word 0 (elim (eqb word 0) as (λ b. not b ≡ false → b ≡ true) [ true ↦ λ _. refl | false ↦ λ e. absurd (cc) ] test)
-
-mask_l-zeros : (words : List ℕ) → Each1 (λ word. word ≡ 0) words → mask_l (map (λ word. not (eqb word 0)) words) ≡ 0
-mask_l-zeros [] zeros = refl
-mask_l-zeros (word ∷ words) zeros =
-    let first = zeros.0 in
-    let rest = mask_l-zeros words zeros.1 in
-    rw (first, rest) refl
-
--- four words that are 0 have no lane set
-pub mask_l-zero_block : (at : ℕ) (words : List ℕ) → at + 4 ≤ length words → AreZeroBetween at (at + 4) words → mask_l (map (λ word. not (eqb word 0)) (chunk at 4 words)) ≡ 0
-mask_l-zero_block at words room zero =
-    let four = length-chunk at 4 words room in
-    mask_l-zeros (chunk at 4 words) (Each1-from_get_or (λ word. word ≡ 0) (chunk at 4 words) 0 (λ i lt. get_or-chunk at 4 words i 0 (omega arith) ∙ zero (at + i) (omega arith) (omega arith)))

@@ -1,5 +1,6 @@
 pub mod Examples
 pub mod AndLaws
+pub mod ZeroLaws
 pub mod SetLaws
 pub mod NumberLaws
 pub mod LeastLaws

@@ -48,7 +48,7 @@ pub fn clear_from(into: &mut [u64], n: u32)
     }
 }
 
-/// How many numbers there are, of at most `2 ^ 31`.
+/// How many numbers there are. There are at most `2 ^ 25` words.
 pub fn count(words: &[u64]) -> u32
     requires { length words.now ≤ 2 ^ 25 }
     ensures { result ≡ length (numbers_in words.now) }
@@ -72,7 +72,7 @@ fn least_of(place: usize, word: u64) -> u32
     64 * place as u32 + word.trailing_zeros()
 }
 
-/// The least number that is not below `n`. `None` where there is none.
+/// The least number that is not below `n`, in at most `2 ^ 25` words. `None` where there is none.
 pub fn first_at_least(words: &[u64], n: u32) -> Option<u32>
     requires { length words.now ≤ 2 ^ 25 }
     ensures { IsLeastFrom n (numbers_in words.now) result }

@@ -1,5 +1,5 @@
 use Rattle.std.proofs.Common.{◌∙◌, arith}
-use Rattle.row_lanes.proofs.AndLaws.{AreZeroBetween-block, mask_l-zero_block}
+use Rattle.row_lanes.proofs.ZeroLaws.{AreZeroBetween-block, mask_l-zero_block}
 use Rattle.row_lanes.proofs.lanes.skip_zero_blocks.Goals as goal
 
 pub loop-at-preserved : goal.loop-at-preserved
