@@ -1,7 +1,6 @@
 //! Four words at a time.
 
-ghost use Rattle.std.specs.Prelude.{◌≡◌, ◌+◌, ◌*◌, ◌<◌, ◌≤◌, length, map, not, ◌==◌};
-ghost use Rattle.std.specs.Simd.Lanes.{chunk, mask_l};
+ghost use Rattle.std.specs.Prelude.{◌↔◌, ◌+◌, ◌*◌, ◌≤◌, length, IsTrue};
 ghost use Rattle.row_lanes.specs.WordByWord.{IsAndBetween, AreZeroBetween};
 
 use std::simd::prelude::*;
@@ -28,15 +27,14 @@ pub fn and_blocks(into: &mut [u64], other: &[u64], blocks: usize)
     }
 }
 
-/// Which of the four words from `at` on are not 0: bit `k` tells it of word `at + k`.
+/// Whether the four words from `at` on are 0.
 #[inline(always)]
-fn set_among_four(words: &[u64], at: usize) -> u64
+fn is_zero_block(words: &[u64], at: usize) -> bool
     requires { at + 4 ≤ length words.now }
-    ensures { result ≡ mask_l (map (λ word. not (word == 0)) (chunk at 4 words.now)) }
+    ensures { IsTrue result ↔ AreZeroBetween at (at + 4) words.now }
 {
-    u64x4::from_slice(&words[at..])
-        .simd_ne(u64x4::splat(0))
-        .to_bitmask()
+    let block = u64x4::from_slice(&words[at..]);
+    block.simd_ne(u64x4::splat(0)).to_bitmask() == 0
 }
 
 /// The first place, of `from` and each fourth one behind it, where one of four words is not 0 or fewer
@@ -49,7 +47,7 @@ pub fn skip_zero_blocks(words: &[u64], from: usize) -> usize
     ensures stops { result + 4 ≤ length words.now → ¬ AreZeroBetween result (result + 4) words.now }
 {
     let mut at = from;
-    while words.len() - at >= 4 && set_among_four(words, at) == 0 {
+    while words.len() - at >= 4 && is_zero_block(words, at) {
         at += 4;
     }
     at
