@@ -21,7 +21,7 @@ fn reads_a_mask(rt: HostRuntime) {
         (65, Some(127)),
         (128, None),
     ] {
-        assert_eq!(rt; first_at_least(&MASK, n), least, "from {n} on");
+        assert_eq!(rt; first_at_least(&MASK, n), least);
     }
 }
 
@@ -47,7 +47,7 @@ fn clears_a_mask(rt: HostRuntime) {
     ] {
         let mut mask = MASK;
         clear_from(&mut mask, n);
-        assert_eq!(rt; mask.as_slice(), [first, second].as_slice(), "from {n} on");
+        assert_eq!(rt; mask.as_slice(), [first, second].as_slice());
     }
 }
 
@@ -85,11 +85,7 @@ fn and_agrees(rt: &impl Abort, kinds: (u32, u32), len: usize, other_len: usize)
         } else {
             word(kinds.0, i)
         };
-        assert_eq!(rt;
-            into[i],
-            expected,
-            "{kinds:?} of {len} and {other_len} at {i}"
-        );
+        assert_eq!(rt; into[i], expected);
     }
 }
 
@@ -123,8 +119,8 @@ fn counts_at_each_length(rt: HostRuntime) {
         let mask = words(kind);
         for len in 0..71 {
             let found = plain_count(&mask[..len]);
-            assert_eq!(rt; u64::from(count(&mask[..len])), found, "{kind} of {len}");
-            assert_eq!(rt; any(&mask[..len]), found != 0, "{kind} of {len}");
+            assert_eq!(rt; u64::from(count(&mask[..len])), found);
+            assert_eq!(rt; any(&mask[..len]), found != 0);
         }
     }
 }
@@ -149,11 +145,7 @@ fn search_agrees(rt: &impl Abort, kind: u32, len: usize)
         for bit in [0, 1, 33, 63] {
             let n = 64 * place + bit;
             let least = plain_first(&mask[..len], n);
-            assert_eq!(rt;
-                first_at_least(&mask[..len], n),
-                least,
-                "{kind} of {len} from {n} on"
-            );
+            assert_eq!(rt; first_at_least(&mask[..len], n), least);
         }
     }
 }
@@ -178,8 +170,8 @@ fn finds_one_word(rt: &impl Abort, place: usize, len: usize)
     } else {
         None
     };
-    assert_eq!(rt; any(&mask[..len]), place < len, "{place} of {len}");
-    assert_eq!(rt; first_at_least(&mask[..len], 0), found, "{place} of {len}");
+    assert_eq!(rt; any(&mask[..len]), place < len);
+    assert_eq!(rt; first_at_least(&mask[..len], 0), found);
 }
 
 #[test]
@@ -203,7 +195,7 @@ fn clear_agrees(rt: &impl Abort, kind: u32, len: usize, n: u32)
         } else {
             word(kind, i) & ((1 << kept) - 1)
         };
-        assert_eq!(rt; mask[i], expected, "{kind} of {len} from {n} on at {i}");
+        assert_eq!(rt; mask[i], expected);
     }
 }
 
