@@ -1,0 +1,3 @@
+pub mod FullLaws
+pub mod PartLaws
+pub mod RegionLaws

@@ -1,0 +1,24 @@
+-- A mask: where it lies among the words of a region, and the numbers whose bit is set there.
+use Rattle.std.specs.Prelude.{◌≡◌, ℕ, ◌+◌, ◌/◌, ◌%◌, ◌<◌, ◌≤◌, min, max, List, slice_index}
+use Rattle.std.specs.Int.{bit_at}
+
+-- where a mask lies: the place of its first word, and how many bits it has
+pub record Stretch : Type 0 where
+  pub start : ℕ
+  pub bits : ℕ
+
+-- how many words so many bits take
+abbrev pub words_for : ℕ → ℕ
+words_for bits = (bits + 63) / 64
+
+-- the place after its last word
+abbrev pub end_of : Stretch → ℕ
+end_of m = m.start + words_for m.bits
+
+-- no word is in both: the earlier end is not after the later start
+abbrev pub DoNotOverlap : Stretch → Stretch → Type 0
+DoNotOverlap a b = min (end_of a) (end_of b) ≤ max a.start b.start
+
+-- the bit of the number n is set in the words: bit n mod 64 of word n / 64
+abbrev pub Has : List ℕ → ℕ → Type 0
+Has words n = bit_at (slice_index words (n / 64)) (n % 64) ≡ 1
