@@ -1,3 +1,4 @@
 pub mod FullLaws
 pub mod PartLaws
 pub mod RegionLaws
+pub mod Loans

@@ -1,6 +1,6 @@
--- What a pool of masks is seen as, and the masks that are live in it.
+-- What a pool of masks is seen as, the masks that are live in it, and what a change leaves as it was.
 use Rattle.std.specs.Prelude.{◌≡◌, ℕ, ◌+◌, ◌-◌, ◌<◌, ◌≤◌, List, length, take, drop, slice_range}
-use Rattle.mask_pool.specs.Mask.{Stretch, end_of, Has}
+use Rattle.mask_pool.specs.Mask.{Stretch, end_of, DoNotOverlap, Has}
 
 -- the words that were taken, in order, and how many are left
 pub record Region : Type 0 where
@@ -27,3 +27,11 @@ IsIn p m n = (n < m.bits) × Has (words_of p m) n
 pub record Stays (old new : Region) (m : Stretch) : Type 0 where
   pub live : IsLive new m
   pub words : words_of new m ≡ words_of old m
+
+-- the mask has these words afterwards, every live mask that does not overlap it is as it was, and no mask ended
+pub record Wrote (old new : Region) (m : Stretch) (ws : List ℕ) : Type 0 where
+  pub words : words_of new m ≡ ws
+  pub others : (other : Stretch) → IsLive old other → DoNotOverlap other m → Stays old new other
+  pub live : (other : Stretch) → IsLive old other → IsLive new other
+  pub spare : new.spare ≡ old.spare
+  pub room : room_of new ≡ room_of old

@@ -6,9 +6,14 @@
 //! overlap it as it was.
 #![tactic(auto)]
 
+mod laws;
 mod masks;
 mod pool;
 mod words;
 
+pub use laws::what_is_written_stays_in_its_mask;
 pub use masks::Mask;
 pub use pool::MaskPool;
+
+#[cfg(test)]
+mod tests;

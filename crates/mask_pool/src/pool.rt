@@ -1,6 +1,6 @@
 //! The pool: one region of words, from which masks are taken.
 
-ghost use Rattle.std.specs.Prelude.{◌≡◌, ◌+◌, ◌≤◌, ◌<◌, ◌↔◌, ℕ, [], IfOk};
+ghost use Rattle.std.specs.Prelude.{◌≡◌, ◌+◌, ◌≤◌, ◌<◌, ◌↔◌, ℕ, [], IfOk, length};
 ghost use Rattle.std.specs.Borrow.{sem};
 ghost use Rattle.mask_pool.specs.Mask.{Stretch, words_for, DoNotOverlap, Has};
 ghost use Rattle.mask_pool.specs.Region.{Region, room_of, IsLive, words_of, Stays};
@@ -69,7 +69,8 @@ impl MaskPool {
     /// The words of a mask: number n is bit n mod 64 of word n / 64.
     pub fn read(&self, mask: Mask) -> &[u64]
         requires { IsLive self.now mask }
-        ensures { result.now ≡ words_of self.now mask }
+        ensures words { result.now ≡ words_of self.now mask }
+        ensures len { length result.now ≡ words_for mask.bits }
     {
         &self.words[mask.start()..mask.end()]
     }
@@ -79,6 +80,7 @@ impl MaskPool {
         requires { IsLive self.old mask }
         ensures* writes_back { sem 𝓛 (LendsMask self.entry mask result) }
         ensures words { result.now ≡ words_of self.old mask }
+        ensures len { length result.now ≡ words_for mask.bits }
     {
         self.words.slice_mut(mask.start()..mask.end())
     }

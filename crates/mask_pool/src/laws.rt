@@ -1,0 +1,14 @@
+//! The law of what is written, for all pools.
+
+ghost use Rattle.std.specs.Prelude.{◌≡◌, ℕ, List, length};
+ghost use Rattle.mask_pool.specs.Mask.{Stretch, words_for};
+ghost use Rattle.mask_pool.specs.Region.{Region, IsLive, Wrote};
+ghost use Rattle.mask_pool.specs.Loan.{with_words};
+
+/// What is written through a live mask leaves every live mask that does not overlap it as it was, and ends
+/// no mask: `with_words` is what a pool is after the loan of [`write`](crate::MaskPool::write) or
+/// [`pair`](crate::MaskPool::pair).
+pub fn what_is_written_stays_in_its_mask()
+    ensures { (pool : Region) (mask : Stretch) (words : List ℕ) → IsLive pool mask →
+        length words ≡ words_for mask.bits → Wrote pool (with_words pool mask words) mask words }
+{}
