@@ -17,17 +17,18 @@ use std::marker::Model;
 pub struct MaskPool {
     words: Vec<u64>,
     taken: u32,
+    beside: Vec<u64>,
 }
 
 impl Model for MaskPool {
-    ghost use Rattle.std.specs.Prelude.{◌≤◌, ◌<◌, ◌-◌, ◌^◌, take, vec_len};
+    ghost use Rattle.std.specs.Prelude.{◌≡◌, ◌≤◌, ◌<◌, ◌-◌, ◌^◌, take, vec_len};
     ghost use Rattle.mask_pool.specs.Region.{Region};
 
     ghost Value = { Region };
 
     ghost view = { λ p. record { words = take p.taken p.words.items; spare = vec_len p.words - p.taken } };
 
-    ghost invariant = { λ p. (p.taken ≤ vec_len p.words) × (vec_len p.words < 2 ^ 32) };
+    ghost invariant = { λ p. (p.taken ≤ vec_len p.words) × (vec_len p.words < 2 ^ 32) × (vec_len p.beside ≡ vec_len p.words) };
 }
 
 impl MaskPool {
@@ -38,6 +39,7 @@ impl MaskPool {
         Ok(MaskPool {
             words: vec![in alloc; 0; words as usize]?,
             taken: 0,
+            beside: vec![in alloc; 0; words as usize]?,
         })
     }
 
@@ -83,6 +85,24 @@ impl MaskPool {
         ensures len { length result.now ≡ words_for mask.bits }
     {
         self.words.slice_mut(mask.start()..mask.end())
+    }
+
+    /// The words of two masks that do not overlap: the first to be written, the second to be read.
+    pub fn pair(&mut self, into: Mask, other: Mask) -> (&mut [u64], &[u64])
+        requires into_live { IsLive self.old into }
+        requires other_live { IsLive self.old other }
+        requires apart { DoNotOverlap into other }
+        ensures* writes_back { sem 𝓛 (LendsMask self.entry into result.0) }
+        ensures into { result.0.now ≡ words_of self.old into }
+        ensures into_len { length result.0.now ≡ words_for into.bits }
+        ensures other { result.1.now ≡ words_of self.old other }
+        ensures other_len { length result.1.now ≡ words_for other.bits }
+    {
+        let from = other.start();
+        for i in 0..other.word_count() as usize {
+            self.beside[i] = self.words[from + i];
+        }
+        (self.words.slice_mut(into.start()..into.end()), &self.beside[..other.word_count() as usize])
     }
 
     /// Ends all masks: all words are left again.
