@@ -39,6 +39,9 @@ module _ (p : Region) (m : Stretch) (ws : List ℕ) where
   pub stays : (other : Stretch) → IsLive p m → length ws ≡ words_for m.bits → IsLive p other → DoNotOverlap other m → Stays p (with_words p m ws) other
   stays other live size was apart = (wrote live size).others other was apart
 
+  pub live-with_words : (other : Stretch) → IsLive p m → IsLive p other → IsLive (with_words p m ws) other
+  live-with_words other live was = let same = length-with_words live in omega arith
+
   pub length-words-with_words : IsLive p m → length (with_words p m ws).words ≡ length p.words
   length-words-with_words live = length-with_words live
 
@@ -47,4 +50,4 @@ module _ (p : Region) (m : Stretch) (ws : List ℕ) where
   spare-with_words = refl
 
 -- what a caller of write or pair cites
-pub ruleset loans = (wrote, words_of-with_words, words_of-with_words_apart, stays, length-words-with_words, spare-with_words, length-words_of)
+pub ruleset loans = (wrote, words_of-with_words, words_of-with_words_apart, stays, live-with_words, length-words-with_words, spare-with_words, length-words_of)
