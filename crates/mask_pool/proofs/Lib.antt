@@ -1,3 +1,5 @@
+pub mod Examples
+pub mod OverlapLaws
 pub mod FullLaws
 pub mod PartLaws
 pub mod RegionLaws

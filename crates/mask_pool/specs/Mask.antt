@@ -15,6 +15,10 @@ words_for bits = (bits + 63) / 64
 abbrev pub end_of : Stretch → ℕ
 end_of m = m.start + words_for m.bits
 
+-- the word in this place is the mask's
+abbrev pub HasWord : Stretch → ℕ → Type 0
+HasWord m place = (m.start ≤ place) × (place < end_of m)
+
 -- no word is in both: the earlier end is not after the later start
 abbrev pub DoNotOverlap : Stretch → Stretch → Type 0
 DoNotOverlap a b = min (end_of a) (end_of b) ≤ max a.start b.start

@@ -1,7 +1,7 @@
 //! The law of what is written, for all pools.
 
-ghost use Rattle.std.specs.Prelude.{◌≡◌, ℕ, List, length};
-ghost use Rattle.mask_pool.specs.Mask.{Stretch, words_for};
+ghost use Rattle.std.specs.Prelude.{◌≡◌, ◌↔◌, ℕ, List, length};
+ghost use Rattle.mask_pool.specs.Mask.{Stretch, words_for, HasWord, DoNotOverlap};
 ghost use Rattle.mask_pool.specs.Region.{Region, IsLive, Wrote};
 ghost use Rattle.mask_pool.specs.Loan.{with_words};
 
@@ -11,4 +11,9 @@ ghost use Rattle.mask_pool.specs.Loan.{with_words};
 pub fn what_is_written_stays_in_its_mask()
     ensures { (pool : Region) (mask : Stretch) (words : List ℕ) → IsLive pool mask →
         length words ≡ words_for mask.bits → Wrote pool (with_words pool mask words) mask words }
+{}
+
+/// Two masks do not overlap exactly where no word is in both.
+pub fn no_word_is_in_both()
+    ensures { (a b : Stretch) → DoNotOverlap a b ↔ ((place : ℕ) → HasWord a place → HasWord b place → ⊥) }
 {}

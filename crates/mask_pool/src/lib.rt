@@ -11,7 +11,7 @@ mod masks;
 mod pool;
 mod words;
 
-pub use laws::what_is_written_stays_in_its_mask;
+pub use laws::{no_word_is_in_both, what_is_written_stays_in_its_mask};
 pub use masks::Mask;
 pub use pool::MaskPool;
 
