@@ -32,14 +32,14 @@ third_is_not_live live = omega (arith, live)
 
 -- they do not overlap, and a mask that begins one word before the end of the first does
 apart : DoNotOverlap first second
-apart = lit≤ tt
+apart = refl
 
 overlapping : DoNotOverlap first (record { start = 1; bits = 64 }) → ⊥
 overlapping none = omega (arith, none)
 
--- a mask of no bits overlaps none, wherever it lies
-no_bits_are_apart : DoNotOverlap first (record { start = 1; bits = 0 })
-no_bits_are_apart = lit≤ tt
+-- a mask of no bits may begin where another ends
+no_bits_are_apart : DoNotOverlap first (record { start = 2; bits = 0 })
+no_bits_are_apart = refl
 
 -- their words and numbers
 words_of_first : words_of pool first ≡ 5 ∷ 1 ∷ []
@@ -58,10 +58,10 @@ has_63 : IsIn pool second 63
 has_63 = (lit< tt, refl)
 
 -- the second with nothing in it: the first stays
-second_cleared : with_words pool second (0 ∷ []) ≡ record { words = 5 ∷ 1 ∷ 0 ∷ []; spare = 2 }
+second_cleared : with_words pool 2 (0 ∷ []) ≡ record { words = 5 ∷ 1 ∷ 0 ∷ []; spare = 2 }
 unfolding with_words
 second_cleared = refl
 
-first_written : with_words pool first (7 ∷ 0 ∷ []) ≡ record { words = 7 ∷ 0 ∷ 0x8000_0000_0000_0000 ∷ []; spare = 2 }
+first_written : with_words pool 0 (7 ∷ 0 ∷ []) ≡ record { words = 7 ∷ 0 ∷ 0x8000_0000_0000_0000 ∷ []; spare = 2 }
 unfolding with_words
 first_written = refl

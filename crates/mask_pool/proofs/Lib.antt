@@ -4,3 +4,5 @@ pub mod FullLaws
 pub mod PartLaws
 pub mod RegionLaws
 pub mod Loans
+pub mod Steps
+pub mod LentBeside

@@ -10,42 +10,42 @@ pub length-words_of : (p : Region) (m : Stretch) → IsLive p m → length (word
 length-words_of p m live = omega (arith, length-take (end_of m - m.start) (drop m.start p.words), length-drop m.start p.words)
 
 module _ (p : Region) (m : Stretch) (ws : List ℕ) where
-  length-with_words : IsLive p m → length (with_words p m ws).words ≡ length p.words
+  length-with_words : IsLive p m → length (with_words p m.start ws).words ≡ length p.words
   unfolding with_words
   length-with_words live = length-spliced p.words ws m.start (omega arith)
 
   -- what is written through a mask stays in it
-  pub wrote : IsLive p m → length ws ≡ words_for m.bits → Wrote p (with_words p m ws) m ws
+  pub wrote : IsLive p m → length ws ≡ words_for m.bits → Wrote p (with_words p m.start ws) m ws
   unfolding with_words
   wrote live size =
       let same = length-with_words live in
       record {
         words = part-spliced p.words ws m.start (end_of m) (omega arith) live;
-        others = λ other was apart. record { live = omega arith; words = part-spliced_apart p.words ws m.start (end_of m) other.start (end_of other) (omega arith) live was apart };
+        others = λ other was apart. record { live = omega arith; words = part-spliced_apart p.words ws m.start (end_of m) other.start (end_of other) (omega arith) live was (omega arith) };
         live = λ other was. omega arith;
         spare = refl;
         room = omega arith;
       }
 
   -- the mask has what was written
-  pub words_of-with_words : IsLive p m → length ws ≡ words_for m.bits → words_of (with_words p m ws) m ≡ ws
+  pub words_of-with_words : IsLive p m → length ws ≡ words_for m.bits → words_of (with_words p m.start ws) m ≡ ws
   words_of-with_words live size = (wrote live size).words
 
   -- a mask that does not overlap it has its old words
-  pub words_of-with_words_apart : (other : Stretch) → IsLive p m → length ws ≡ words_for m.bits → IsLive p other → DoNotOverlap other m → words_of (with_words p m ws) other ≡ words_of p other
+  pub words_of-with_words_apart : (other : Stretch) → IsLive p m → length ws ≡ words_for m.bits → IsLive p other → DoNotOverlap other m → words_of (with_words p m.start ws) other ≡ words_of p other
   words_of-with_words_apart other live size was apart = ((wrote live size).others other was apart).words
 
   -- and is live still, as every mask is
-  pub stays : (other : Stretch) → IsLive p m → length ws ≡ words_for m.bits → IsLive p other → DoNotOverlap other m → Stays p (with_words p m ws) other
+  pub stays : (other : Stretch) → IsLive p m → length ws ≡ words_for m.bits → IsLive p other → DoNotOverlap other m → Stays p (with_words p m.start ws) other
   stays other live size was apart = (wrote live size).others other was apart
 
-  pub live-with_words : (other : Stretch) → IsLive p m → IsLive p other → IsLive (with_words p m ws) other
+  pub live-with_words : (other : Stretch) → IsLive p m → IsLive p other → IsLive (with_words p m.start ws) other
   live-with_words other live was = let same = length-with_words live in omega arith
 
-  pub length-words-with_words : IsLive p m → length (with_words p m ws).words ≡ length p.words
+  pub length-words-with_words : IsLive p m → length (with_words p m.start ws).words ≡ length p.words
   length-words-with_words live = length-with_words live
 
-  pub spare-with_words : (with_words p m ws).spare ≡ p.spare
+  pub spare-with_words : (with_words p m.start ws).spare ≡ p.spare
   unfolding with_words
   spare-with_words = refl
 

@@ -1,6 +1,6 @@
 -- Parts of a list of words, after some of the words were written.
 use Rattle.std.proofs.Common.{◌≡◌, ℕ, ◌+◌, ◌-◌, ◌<◌, ◌≤◌, min, max, List, ◌++◌, length, get_or, take, drop, slice_range, arith, rules, length-take, length-drop, refl, sym, ap, ◌∙◌}
-use Rattle.std.proofs.lemmas.List.{same_lists, places, ext_get_or}
+use Rattle.std.proofs.lemmas.List.{same_lists, places}
 use Rattle.std.proofs.lemmas.Grind.{common_steps, elements}
 
 -- words with ws written over them from s on
@@ -22,10 +22,16 @@ take-refilled len xs ws s t fits before inside = same_lists _ _ (search (rules, 
 pub part-refilled_before : (len : ℕ) (xs ws : List ℕ) (s t more a e : ℕ) → length xs ≡ len → s ≡ t → t + more ≤ len → length ws ≡ more → e ≤ t → take (e - a) (drop a (take (t + more) (refilled len xs s ws))) ≡ take (e - a) (drop a (take t xs))
 part-refilled_before len xs ws s t more a e fits at before size inside = same_lists _ _ (search (rules, places)) (λ k d h. grind (arith, places))
 
--- a part that was copied word by word
-pub part-copied : (n from upto : ℕ) (xs ys : List ℕ) → from + n ≡ upto → upto ≤ length xs → n ≤ length ys → ((k : ℕ) → k < n → get_or ys k 0 ≡ get_or xs (from + k) 0) → take n ys ≡ slice_range xs from upto
-part-copied n from upto xs ys is inside room same =
-    ext_get_or 0 _ _ (simp (length-take, length-drop) (omega arith)) (λ k below. let here : k < n = omega (arith, length-take n ys) in let copy = same k here in grind (arith, places))
+-- a part that is cut in two
+module _ (xs ys : List ℕ) (start mid end : ℕ) (is : ys ≡ slice_range xs start end) (ordered : start ≤ mid) (below : mid ≤ end) (inside : end ≤ length xs) where
+  pub length-range : length ys ≡ end - start
+  length-range = rw is (simp (length-take, length-drop) (omega arith))
+
+  pub range-front : take (mid - start) ys ≡ slice_range xs start mid
+  range-front = rw is (same_lists _ _ (search (rules, places)) (λ k d h. grind (arith, places)))
+
+  pub range-back : drop (mid - start) ys ≡ slice_range xs mid end
+  range-back = rw is (same_lists _ _ (search (rules, places)) (λ k d h. grind (arith, places)))
 
 -- what was written, and a part apart from it
 module _ (xs ws : List ℕ) (s : ℕ) where

@@ -16,17 +16,19 @@ live_end len words taken p m is live =
     let size : length (take taken words) ≡ length p.words = ap (λ q. length q.words) is in
     omega (arith, length-take taken words)
 
--- words that are written over a live mask's are with_words of the region
-pub region-refilled : (len : ℕ) (words ws : List ℕ) (taken s : ℕ) (p : Region) (m : Stretch) → region len words taken ≡ p → s ≡ m.start → length words ≡ len → taken ≤ len → IsLive p m → region len (refilled len words s ws) taken ≡ with_words p m ws
+-- words that are written over some of the words taken are with_words of the region
+pub region-refilled : (len : ℕ) (words ws : List ℕ) (taken start : ℕ) (p : Region) → region len words taken ≡ p → length words ≡ len → taken ≤ len → start ≤ length p.words → region len (refilled len words start ws) taken ≡ with_words p start ws
 unfolding with_words
-region-refilled len words ws taken s p m is at size within live =
-    let inside : s ≤ taken = let end = live_end len words taken p m is live in omega arith in
-    rw (← is, ← at) (ap (λ (l : List ℕ). record { words = l; spare = len - taken }) (take-refilled len words ws s taken size within inside))
+region-refilled len words ws taken start p is size within inside =
+    let all : length (take taken words) ≡ length p.words = ap (λ q. length q.words) is in
+    let before : start ≤ taken = omega (arith, length-take taken words) in
+    rw (← is) (ap (λ (l : List ℕ). record { words = l; spare = len - taken }) (take-refilled len words ws start taken size within before))
 
--- the words of a live mask
-pub words_of-region : (len : ℕ) (words : List ℕ) (taken : ℕ) (p : Region) (m : Stretch) → region len words taken ≡ p → IsLive p m → slice_range words m.start (end_of m) ≡ words_of p m
-words_of-region len words taken p m is live =
-    let end = live_end len words taken p m is live in
+-- the words from start to end
+pub range-region : (len : ℕ) (words : List ℕ) (taken start end : ℕ) (p : Region) → region len words taken ≡ p → end ≤ length p.words → slice_range words start end ≡ slice_range p.words start end
+range-region len words taken start end p is inside =
+    let all : length (take taken words) ≡ length p.words = ap (λ q. length q.words) is in
+    let before : end ≤ taken = omega (arith, length-take taken words) in
     rw (← is) (same_lists _ _ (search (rules, places)) (λ k d h. grind (arith, places)))
 
 -- a mask that was live stays as it was where words behind it are taken and written

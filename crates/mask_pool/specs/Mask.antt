@@ -1,5 +1,5 @@
 -- A mask: where it lies among the words of a region, and the numbers whose bit is set there.
-use Rattle.std.specs.Prelude.{◌≡◌, ℕ, ◌+◌, ◌/◌, ◌%◌, ◌<◌, ◌≤◌, min, max, List, slice_index}
+use Rattle.std.specs.Prelude.{◌≡◌, ℕ, ◌+◌, ◌-◌, ◌/◌, ◌%◌, ◌<◌, ◌≤◌, min, List, slice_index}
 use Rattle.std.specs.Int.{bit_at}
 
 -- where a mask lies: the place of its first word, and how many bits it has
@@ -19,9 +19,9 @@ end_of m = m.start + words_for m.bits
 abbrev pub HasWord : Stretch → ℕ → Type 0
 HasWord m place = (m.start ≤ place) × (place < end_of m)
 
--- no word is in both: the earlier end is not after the later start
+-- one of the two ends before the other begins: it reaches by 0 words past the start of the other
 abbrev pub DoNotOverlap : Stretch → Stretch → Type 0
-DoNotOverlap a b = min (end_of a) (end_of b) ≤ max a.start b.start
+DoNotOverlap a b = min (end_of a - b.start) (end_of b - a.start) ≡ 0
 
 -- the bit of the number n is set in the words: bit n mod 64 of word n / 64
 abbrev pub Has : List ℕ → ℕ → Type 0

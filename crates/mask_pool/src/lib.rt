@@ -6,12 +6,13 @@
 //! overlap it as it was.
 #![tactic(auto)]
 
+mod beside;
 mod laws;
 mod masks;
 mod pool;
 mod words;
 
-pub use laws::{no_word_is_in_both, what_is_written_stays_in_its_mask};
+pub use laws::{one_ends_before_the_other, what_is_written_stays_in_its_mask};
 pub use masks::Mask;
 pub use pool::MaskPool;
 

@@ -1,10 +1,10 @@
 //! The pool: one region of words, from which masks are taken.
 
-ghost use Rattle.std.specs.Prelude.{◌≡◌, ◌+◌, ◌≤◌, ◌<◌, ◌↔◌, ℕ, [], IfOk, length};
+ghost use Rattle.std.specs.Prelude.{◌≡◌, ◌+◌, ◌≤◌, ◌<◌, ◌↔◌, ℕ, [], IfOk, length, slice_range};
 ghost use Rattle.std.specs.Borrow.{sem};
 ghost use Rattle.mask_pool.specs.Mask.{Stretch, words_for, DoNotOverlap, Has};
 ghost use Rattle.mask_pool.specs.Region.{Region, room_of, IsLive, words_of, Stays};
-ghost use Rattle.mask_pool.specs.Loan.{LendsMask};
+ghost use Rattle.mask_pool.specs.Loan.{LendsMask, LendsWords};
 
 use crate::masks::Mask;
 use crate::words::fill;
@@ -17,18 +17,17 @@ use std::marker::Model;
 pub struct MaskPool {
     words: Vec<u64>,
     taken: u32,
-    beside: Vec<u64>,
 }
 
 impl Model for MaskPool {
-    ghost use Rattle.std.specs.Prelude.{◌≡◌, ◌≤◌, ◌<◌, ◌-◌, ◌^◌, take, vec_len};
+    ghost use Rattle.std.specs.Prelude.{◌≤◌, ◌<◌, ◌-◌, ◌^◌, take, vec_len};
     ghost use Rattle.mask_pool.specs.Region.{Region};
 
     ghost Value = { Region };
 
     ghost view = { λ p. record { words = take p.taken p.words.items; spare = vec_len p.words - p.taken } };
 
-    ghost invariant = { λ p. (p.taken ≤ vec_len p.words) × (vec_len p.words < 2 ^ 32) × (vec_len p.beside ≡ vec_len p.words) };
+    ghost invariant = { λ p. (p.taken ≤ vec_len p.words) × (vec_len p.words < 2 ^ 32) };
 }
 
 impl MaskPool {
@@ -39,7 +38,6 @@ impl MaskPool {
         Ok(MaskPool {
             words: vec![in alloc; 0; words as usize]?,
             taken: 0,
-            beside: vec![in alloc; 0; words as usize]?,
         })
     }
 
@@ -84,7 +82,7 @@ impl MaskPool {
         ensures words { result.now ≡ words_of self.old mask }
         ensures len { length result.now ≡ words_for mask.bits }
     {
-        self.words.slice_mut(mask.start()..mask.end())
+        self.words_between(mask.start(), mask.end())
     }
 
     /// The words of two masks that do not overlap: the first to be written, the second to be read.
@@ -98,11 +96,13 @@ impl MaskPool {
         ensures other { result.1.now ≡ words_of self.old other }
         ensures other_len { length result.1.now ≡ words_for other.bits }
     {
-        let from = other.start();
-        for i in 0..other.word_count() as usize {
-            self.beside[i] = self.words[from + i];
+        if into.end() <= other.start() {
+            let (lent, after) = self.front_beside(into.start(), into.end(), other.end());
+            (lent, &after[other.start() - into.end()..])
+        } else {
+            let (lent, before) = self.back_beside(other.start(), into.start(), into.end());
+            (lent, &before[..other.word_count() as usize])
         }
-        (self.words.slice_mut(into.start()..into.end()), &self.beside[..other.word_count() as usize])
     }
 
     /// Ends all masks: all words are left again.
@@ -110,5 +110,14 @@ impl MaskPool {
         ensures { self.new ≡ record { words = []; spare = room_of self.old } }
     {
         self.taken = 0;
+    }
+
+    /// The words from `start` to `end`, to be written.
+    pub(crate) fn words_between(&mut self, start: usize, end: usize) -> &mut [u64]
+        requires { (start ≤ end) × (end ≤ length self.old.words) }
+        ensures* writes_back { sem 𝓛 (LendsWords self.entry start result) }
+        ensures words { result.now ≡ slice_range self.old.words start end }
+    {
+        self.words.slice_mut(start..end)
     }
 }
