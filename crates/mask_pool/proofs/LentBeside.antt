@@ -1,7 +1,7 @@
 -- A `&mut` slice is cut in two, for all the time that it has left: one part is lent on to be written, and the other is shared. The
 -- slice ends with what was last in the part that was lent, and the other part as it was. These are steps of the logic alone, for any
 -- elements that can be shared: no code is walked here. Assumes `Logic`.
-use Rattle.mask_pool.proofs.Steps.{◌≡◌, ℕ, ◌+◌, List, [], ◌∷◌, ◌++◌, length, sym, refl, ap, ◌∙◌, Ura, full_share, Lifetime, Val, SProp, ent, sep, ex, emp, Gv, coded_list, Lft, GName, Share, Fml, ftrue, fsep, fseps, fhide, flft, fobs, fbor, Incl-refl, Logic, sem, ‵, raw, ◌⊛◌, some, later, ◌$◌, ◌∵◌, !, qed, move, keep, drop, use1, use2, split, split3, group, pick, await, fsplit, fsplit3, fjoin, feq_i, feq_l, rewrite, show, updating, now, done, SemTy, cells, Arr, Borrowed, open_ref, takes_beside, Array, follows, heres_id, slice_of, row, whole_out, whole_in, mem, shared_of, RattleType, pure_i, Shares, shares_each_from, MutSlice, ShrSlice, Room, slice_val, shr_slice_at, elements_shared, nothing, at, cut_app, join_app, length_app}
+use Rattle.mask_pool.proofs.Steps.{◌≡◌, ℕ, ◌+◌, drop_words, drop_at, List, [], ◌∷◌, ◌++◌, length, sym, refl, ap, ◌∙◌, Ura, full_share, Lifetime, Val, SProp, ent, sep, ex, emp, Gv, coded_list, Lft, GName, Share, Fml, ftrue, fsep, fseps, fhide, flft, fobs, fbor, Incl-refl, Logic, sem, ‵, raw, ◌⊛◌, some, later, ◌$◌, ◌∵◌, !, qed, move, keep, drop, use1, use2, split, split3, group, pick, await, fsplit, fsplit3, fjoin, feq_i, feq_l, rewrite, show, updating, now, done, SemTy, cells, Arr, Borrowed, open_ref, takes_beside, Array, follows, heres_id, slice_of, row, whole_out, whole_in, mem, shared_of, RattleType, pure_i, Shares, shares_each_from, MutSlice, ShrSlice, Room, slice_val, shr_slice_at, elements_shared, nothing, at, cut_app, join_app, length_app}
 
 module _ {M : Type 1} {𝓤 : Ura M} (𝓛 : Logic 𝓤) (R : RattleType) (ℓ ℓ' : Lifetime) (κ : Lft) (shares : Shares 𝓛 R κ) (q : Share) (b o : ℕ) (γ : GName) (front back : List R.Denot) where
   open 𝓛 use {H, A}
@@ -31,13 +31,18 @@ module _ {M : Type 1} {𝓤 : Ura M} (𝓛 : Logic 𝓤) (R : RattleType) (ℓ �
   abbrev Back : Fml
   Back = row R full_share back b p
 
+  -- ws, and what is left of the slice behind them: at a front, the back
+  abbrev pub onto : List R.Denot → List R.Denot
+  onto ws = ws ++ drop_words (length ws) (front ++ back)
+
   -- any front beside the back makes a whole
-  whole_with_front : (ws : List R.Denot) → ent 𝓤 (sep 𝓤 (sem 𝓛 ((Elements (length front)).own_at ws b o)) (sep 𝓤 (sem 𝓛 (fseps (Back ∷ []))) (emp 𝓤))) (sem 𝓛 ((Elements all).own_at (ws ++ back) b o))
+  whole_with_front : (ws : List R.Denot) → ent 𝓤 (sep 𝓤 (sem 𝓛 ((Elements (length front)).own_at ws b o)) (sep 𝓤 (sem 𝓛 (fseps (Back ∷ []))) (emp 𝓤))) (sem 𝓛 ((Elements all).own_at (onto ws) b o))
   unfolding fseps
   whole_with_front ws = qed 𝓛 (‵ ((Elements (length front)).own_at ws b o) ∷ (‵ Back ⊛ ‵ ftrue) ∷ raw (emp 𝓤) ∷ []) ∵ fsplit ! $ feq_l ! (λ e. move ! (1 ∷ []) $ split ! $
       use1 𝓛 (‵ (cells (mem R) back b p)) (whole_in 𝓛 R back b p) $
       rewrite ! 0 (λ (k : ℕ). ‵ (cells (mem R) back b (at o (mem R).size k))) (sym e) refl $ move ! (2 ∷ 0 ∷ []) $ use2 𝓛 (‵ (cells (mem R) (ws ++ back) b o)) (join_app 𝓛 (mem R) ws back b o) $
-      feq_i ! ℕ (length (ws ++ back)) all (length_app ws back ∙ ap (λ k. k + length back) e ∙ sym (length_app front back)) $ fjoin ! $ keep ! (0 ∷ []) $ done !)
+      feq_i ! ℕ (length (ws ++ back)) all (length_app ws back ∙ ap (λ k. k + length back) e ∙ sym (length_app front back)) $ fjoin ! $
+      rewrite ! 0 (λ (bs : List R.Denot). ‵ ((Elements all).own_at (ws ++ bs) b o)) (sym (drop_at front back (length ws) (sym e))) refl $ keep ! (0 ∷ []) $ done !)
 
   -- and any back behind the front
   whole_with_back : (ws : List R.Denot) → ent 𝓤 (sep 𝓤 (sem 𝓛 ((Elements (length back)).own_at ws b p)) (sep 𝓤 (sem 𝓛 (fseps (Front ∷ []))) (emp 𝓤))) (sem 𝓛 ((Elements all).own_at (front ++ ws) b o))
@@ -50,7 +55,7 @@ module _ {M : Type 1} {𝓤 : Ura M} (𝓛 : Logic 𝓤) (R : RattleType) (ℓ �
   abbrev pub FrontBeside : GName → SProp 𝓤
   FrontBeside δ = sep 𝓤 (sem 𝓛 ((MutSlice ℓ κ R).own_val (record { ref_ptr = (b, o); ghost_name = δ; now = front }) (slice_val (b, o) (length front) ∷ [])))
       (sep 𝓤 (sem 𝓛 ((ShrSlice ℓ' κ R).own_val (record { ref_ptr = (b, p); now = back }) (slice_val (b, p) (length back) ∷ [])))
-      (sep 𝓤 (A.lft κ q) (sem 𝓛 (follows (Array R 0) (Array R 0) γ δ (λ ws. ws ++ back)))))
+      (sep 𝓤 (A.lft κ q) (sem 𝓛 (follows (Array R 0) (Array R 0) γ δ onto))))
 
   -- the back to be written, under the name δ, and the front to be read
   abbrev pub BackBeside : GName → SProp 𝓤
@@ -67,8 +72,8 @@ module _ {M : Type 1} {𝓤 : Ura M} (𝓛 : Logic 𝓤) (R : RattleType) (ℓ �
         feq_i ! ℕ (length front) (length front) refl $ fjoin ! $ move ! (1 ∷ []) $ use1 𝓛 (‵ Back) (whole_out 𝓛 R back b p) $ nothing ! $ move ! (1 ∷ 0 ∷ []) $ fjoin ! $ nothing ! $
         -- [nothing; the back; the front; the open borrow; obs; auth]
         move ! (3 ∷ 4 ∷ 5 ∷ 2 ∷ 1 ∷ 0 ∷ []) $ group ! 6 $
-        use1 𝓛 (later (some (λ (δ : GName). ‵ (fobs δ (code front)) ⊛ ‵ (fbor κ (Borrowed (Elements (length front)) b o δ)) ⊛ ‵ (flft κ q) ⊛ ‵ (follows (Array R 0) (Array R 0) γ δ (λ ws. ws ++ back)) ⊛ ‵ (fbor κ Back) ⊛ ‵ ftrue)))
-        (takes_beside 𝓛 (Elements all) (Elements (length front)) (λ ws. ws ++ back) κ q b o b o γ (Back ∷ []) (emp 𝓤) whole_with_front (code (front ++ back)) (code (front ++ back)) front) $ await ! tt $ pick ! (λ δ. split3 ! $
+        use1 𝓛 (later (some (λ (δ : GName). ‵ (fobs δ (code front)) ⊛ ‵ (fbor κ (Borrowed (Elements (length front)) b o δ)) ⊛ ‵ (flft κ q) ⊛ ‵ (follows (Array R 0) (Array R 0) γ δ onto) ⊛ ‵ (fbor κ Back) ⊛ ‵ ftrue)))
+        (takes_beside 𝓛 (Elements all) (Elements (length front)) onto κ q b o b o γ (Back ∷ []) (emp 𝓤) whole_with_front (code (front ++ back)) (code (front ++ back)) front) $ await ! tt $ pick ! (λ δ. split3 ! $
         use2 𝓛 (‵ ((MutSlice ℓ κ R).own_val (record { ref_ptr = (b, o); ghost_name = δ; now = front }) (slice_val (b, o) (length front) ∷ []))) (slice_of 𝓛 R ℓ κ b o δ front room_front) $
         move ! (1 ∷ []) $ split3 ! $ move ! (2 ∷ []) $ split ! $ move ! (0 ∷ 2 ∷ []) $
         -- [the borrow of the back; the token; true; how the slice follows; the front]

@@ -40,3 +40,13 @@ stays-refilled len words ws taken s more p m is at size within fits live =
       live = omega (arith, length-take (taken + more) (refilled len words s ws));
       words = rw (← is) (part-refilled_before len words ws s taken more m.start (end_of m) size at within fits end);
     }
+
+-- words from start on, and then those that stand behind them, are those words alone
+pub with_words-onto : (p : Region) (start end : ℕ) (ws : List ℕ) → start ≤ end → end ≤ length p.words → with_words p start (ws ++ drop (length ws) (slice_range p.words start end)) ≡ with_words p start ws
+unfolding with_words
+with_words-onto p start end ws ordered inside = ap (λ (l : List ℕ). record { words = l; spare = p.spare }) (same_lists _ _ (search (rules, places)) (λ k d h. grind (arith, places)))
+
+-- the words that stand between start and mid, and then others, are the others from mid on
+pub with_words-behind : (p : Region) (start mid : ℕ) (ws : List ℕ) → start ≤ mid → mid ≤ length p.words → with_words p start (slice_range p.words start mid ++ ws) ≡ with_words p mid ws
+unfolding with_words
+with_words-behind p start mid ws ordered inside = ap (λ (l : List ℕ). record { words = l; spare = p.spare }) (same_lists _ _ (search (rules, places)) (λ k d h. grind (arith, places)))

@@ -2,6 +2,7 @@
 pub use Rattle.std.proofs.Common.{◌≡◌, ℕ, ◌+◌, ◌-◌, ◌*◌, ◌^◌, ◌<◌, ◌≤◌, List, [], ◌∷◌, ◌++◌, length, take, sym, refl, ap, subst, ◌∙◌, arith, length-drop, w64, MutBor}
 pub use Rattle.std.proofs.Common.{drop as drop_words}
 pub use Rattle.std.proofs.raw_atomic.Walks.{proved}
+pub use Rattle.std.proofs.lemmas.List.{drop_at}
 pub use lib.ListN.{take-append-drop}
 pub use seplogic.Ra.Ura.{Ura}
 pub use base.Fraction.{full_share}

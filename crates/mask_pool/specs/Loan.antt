@@ -1,5 +1,5 @@
 -- What becomes of a pool when words that it lent to be written come back.
-use Rattle.std.specs.Prelude.{ℕ, ◌+◌, List, ◌++◌, length, take, drop, slice_range}
+use Rattle.std.specs.Prelude.{ℕ, ◌+◌, List, ◌++◌, length, take, drop}
 use Rattle.std.specs.Borrow.{Lends, MutBor, Fml, Array, u64}
 use Rattle.mask_pool.specs.Mask.{Stretch}
 use Rattle.mask_pool.specs.Region.{Region}
@@ -17,12 +17,3 @@ LendsWords pool start lent = Lends the_row (Array u64 0) pool lent (with_words p
 -- the pool ends with what was last in the mask's words
 abbrev pub LendsMask : MutBor Region → Stretch → MutBor (List ℕ) → Fml
 LendsMask pool m lent = LendsWords pool m.start lent
-
--- Of the words from start to end, those before mid were lent to be written, or those from mid on.
-abbrev pub LendsBefore : MutBor Region → ℕ → ℕ → ℕ → MutBor (List ℕ) → Fml
-LendsBefore pool start mid end lent =
-    Lends the_row (Array u64 0) pool lent (λ ws. with_words pool.now start (ws ++ slice_range pool.now.words mid end))
-
-abbrev pub LendsBehind : MutBor Region → ℕ → ℕ → MutBor (List ℕ) → Fml
-LendsBehind pool start mid lent =
-    Lends the_row (Array u64 0) pool lent (λ ws. with_words pool.now start (slice_range pool.now.words start mid ++ ws))

@@ -5,7 +5,7 @@
 
 ghost use Rattle.std.specs.Prelude.{◌≡◌, ◌≤◌, length, slice_range};
 ghost use Rattle.std.specs.Borrow.{sem};
-ghost use Rattle.mask_pool.specs.Loan.{LendsBefore, LendsBehind};
+ghost use Rattle.mask_pool.specs.Loan.{LendsWords};
 
 use crate::pool::MaskPool;
 use std::slice;
@@ -15,7 +15,7 @@ impl MaskPool {
     /// read.
     pub(crate) fn front_beside(&mut self, start: usize, mid: usize, end: usize) -> (&mut [u64], &[u64])
         requires { (start ≤ mid) × (mid ≤ end) × (end ≤ length self.old.words) }
-        ensures* writes_back { sem 𝓛 (LendsBefore self.entry start mid end result.0) }
+        ensures* writes_back { sem 𝓛 (LendsWords self.entry start result.0) }
         ensures parts { (result.0.now ≡ slice_range self.old.words start mid)
             × (result.1.now ≡ slice_range self.old.words mid end) }
     {
@@ -33,7 +33,7 @@ impl MaskPool {
     /// read.
     pub(crate) fn back_beside(&mut self, start: usize, mid: usize, end: usize) -> (&mut [u64], &[u64])
         requires { (start ≤ mid) × (mid ≤ end) × (end ≤ length self.old.words) }
-        ensures* writes_back { sem 𝓛 (LendsBehind self.entry start mid result.0) }
+        ensures* writes_back { sem 𝓛 (LendsWords self.entry mid result.0) }
         ensures parts { (result.0.now ≡ slice_range self.old.words mid end)
             × (result.1.now ≡ slice_range self.old.words start mid) }
     {

@@ -6,6 +6,7 @@ use Rattle.mask_pool.specs.Loan.{with_words}
 use Rattle.mask_pool.specs.contracts.pool.MaskPool.{the_row as R}
 use Rattle.mask_pool.proofs.LentBeside.{lends_front}
 use Rattle.mask_pool.proofs.PartLaws.{length-range, range-front, range-back}
+use Rattle.mask_pool.proofs.RegionLaws.{with_words-onto}
 use Rattle.mask_pool.specs.contracts.pool.MaskPool.words_between as g
 use Rattle.mask_pool.proofs.pool.MaskPool.words_between.Met.{met}
 use Rattle.mask_pool.specs.contracts.pool.MaskPool.front_beside as f
@@ -67,6 +68,8 @@ front_beside_spec 𝓤 𝓛 𝓜 𝓡 wired =
     let m_fits : m < 2 ^ 64 = omega arith in
     let n_fits : n < 2 ^ 64 = omega arith in
     let lent : GName → MutBor (List ℕ) = λ δ. record { ref_ptr = (b, o); ghost_name = δ; now = front } in
+    let onto : List ℕ → List ℕ = λ ws. ws ++ drop_words (length ws) (front ++ back) in
+    let ends : (ws : List ℕ) → with_words p start (onto ws) ≡ with_words p start ws = λ ws. ap (λ (ys : List ℕ). with_words p start (ws ++ drop_words (length ws) ys)) (take-append-drop m xs ∙ is) ∙ with_words-onto p start end ws (omega arith) asked.2 in
     let read : Bor (List ℕ) = record { ref_ptr = (b, behind); now = back } in
     let u : Val = vstruct (vcons (slice_val (b, o) m) (vcons (slice_val (b, m * 8 + o) n) vnil)) in
     -- [the words' borrow; the tokens; how the pool follows]
@@ -90,12 +93,12 @@ front_beside_spec 𝓤 𝓛 𝓜 𝓡 wired =
     rewrite ! 0 (λ (ws : List ℕ). ‵ (fsep (fobs γ ((coded_holeys u64).code (heres u64 ws))) (fbor κ (Borrowed (Arr (mem u64) (length ws)) b o γ)))) (sym (take-append-drop m xs)) refl $
     pure_i ! (mut_slice_at u64 (record { ref_ptr = (b, o); ghost_name = γ; now = front ++ back }) (slice_val (b, o) (length (front ++ back)) ∷ [])) (tt, (tt, tt)) (refl, subst (λ (ws : List ℕ). Room u64 (length ws)) (sym (take-append-drop m xs)) known.1) $ fjoin ! $
     move ! (1 ∷ []) $ split ! $ move ! (2 ∷ 0 ∷ []) $
-    use2 𝓛 (later (some (λ (δ : GName). ‵ ((MutSlice (named 0) κ u64).own_val (lent δ) (slice_val (b, o) (length front) ∷ [])) ⊛ ‵ ((ShrSlice (named 0) κ u64).own_val read (slice_val (b, behind) (length back) ∷ [])) ⊛ ‵ (flft κ q) ⊛ ‵ (follows (Array u64 0) (Array u64 0) γ δ (λ ws. ws ++ back)))))
+    use2 𝓛 (later (some (λ (δ : GName). ‵ ((MutSlice (named 0) κ u64).own_val (lent δ) (slice_val (b, o) (length front) ∷ [])) ⊛ ‵ ((ShrSlice (named 0) κ u64).own_val read (slice_val (b, behind) (length back) ∷ [])) ⊛ ‵ (flft κ q) ⊛ ‵ (follows (Array u64 0) (Array u64 0) γ δ onto))))
     (lends_front 𝓛 u64 (named 0) (named 0) κ ((uint_Copied 𝓛 w64).shares full_share κ) q b o γ front back (omega arith, omega arith) (omega arith, omega arith) (slice_val (b, o) (length (front ++ back)) ∷ [])) $ await ! tt $ pick ! (λ δ. split3 ! $
     -- how the pool follows the front
     move ! (2 ∷ []) $ split ! $ move ! (5 ∷ 1 ∷ []) $
-    use2 𝓛 (‵ (follows R (Array u64 0) pool.ghost_name δ (λ ws. with_words p start (ws ++ back)))) (follows_then 𝓛 R (Array u64 0) (Array u64 0) (with_words p start) (λ ws. ws ++ back) pool.ghost_name γ δ) $
-    rewrite ! 0 (λ (bs : List ℕ). ‵ (follows R (Array u64 0) pool.ghost_name δ (λ ws. with_words p start (ws ++ bs)))) back_is refl $
+    use2 𝓛 (‵ (follows R (Array u64 0) pool.ghost_name δ (λ ws. with_words p start (onto ws)))) (follows_then 𝓛 R (Array u64 0) (Array u64 0) (with_words p start) onto pool.ghost_name γ δ) $
+    rewrite ! 0 (λ (F : List ℕ → Region). ‵ (follows R (Array u64 0) pool.ghost_name δ F)) (λ i ws. ends ws i) refl $
     -- [how the pool follows; the token; the front; the back; true]: the two parts as one result
     move ! (2 ∷ 3 ∷ []) $ nothing ! $ move ! (2 ∷ 0 ∷ []) $ fjoin ! $ move ! (1 ∷ 0 ∷ []) $ fjoin ! $
     feq_i ! (List Val) (u ∷ []) (vstruct (vcons (slice_val (b, o) (length front)) (vcons (slice_val (b, behind) (length back)) vnil)) ∷ []) (λ k. vstruct (vcons (slice_val (b, o) (sym front_len k)) (vcons (slice_val (b, sym place k) (sym back_len k)) vnil)) ∷ []) $ fjoin ! $
