@@ -1,6 +1,6 @@
 -- Worked examples of the definitions.
-use Rattle.std.proofs.Common.{◌≡◌, ℕ, ◌<◌, ◌≤◌, [], ◌∷◌, refl, lit<, lit≤, arith}
-use Rattle.mask_pool.specs.Mask.{Stretch, words_for, end_of, DoNotOverlap, Has}
+use Rattle.std.proofs.Common.{◌≡◌, [], ◌∷◌, refl, lit<, lit≤, arith}
+use Rattle.mask_pool.specs.Mask.{Stretch, words_for, DoNotOverlap}
 use Rattle.mask_pool.specs.Region.{Region, room_of, IsLive, words_of, IsIn}
 use Rattle.mask_pool.specs.Loan.{with_words}
 

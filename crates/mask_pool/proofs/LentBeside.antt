@@ -1,7 +1,7 @@
 -- A `&mut` slice is cut in two, for all the time that it has left: one part is lent on to be written, and the other is shared. The
 -- slice ends with what was last in the part that was lent, and the other part as it was. These are steps of the logic alone, for any
 -- elements that can be shared: no code is walked here. Assumes `Logic`.
-use Rattle.mask_pool.proofs.Steps.{◌≡◌, ℕ, ◌+◌, drop_words, drop_at, List, [], ◌∷◌, ◌++◌, length, sym, refl, ap, ◌∙◌, Ura, full_share, Lifetime, Val, SProp, ent, sep, ex, emp, Gv, coded_list, Lft, GName, Share, Fml, ftrue, fsep, fseps, fhide, flft, fobs, fbor, Incl-refl, Logic, sem, ‵, raw, ◌⊛◌, some, later, ◌$◌, ◌∵◌, !, qed, move, keep, drop, use1, use2, split, split3, group, pick, await, fsplit, fsplit3, fjoin, feq_i, feq_l, rewrite, show, updating, now, done, SemTy, cells, Arr, Borrowed, open_ref, takes_beside, Array, follows, heres_id, slice_of, row, whole_out, whole_in, mem, shared_of, RattleType, pure_i, Shares, shares_each_from, MutSlice, ShrSlice, Room, slice_val, shr_slice_at, elements_shared, nothing, at, cut_app, join_app, length_app}
+use Rattle.mask_pool.proofs.Steps.{ℕ, ◌+◌, drop_words, drop_at, List, [], ◌∷◌, ◌++◌, length, sym, refl, ap, ◌∙◌, Ura, full_share, Lifetime, Val, SProp, ent, sep, ex, emp, Gv, coded_list, Lft, GName, Share, Fml, ftrue, fseps, fhide, flft, fobs, fbor, Incl-refl, Logic, sem, ‵, raw, ◌⊛◌, some, later, ◌$◌, ◌∵◌, !, qed, move, keep, drop, use1, use2, split, split3, group, pick, await, fsplit, fsplit3, fjoin, feq_i, feq_l, rewrite, show, updating, now, done, SemTy, cells, Arr, Borrowed, open_ref, takes_beside, Array, follows, heres_id, slice_of, row, whole_out, whole_in, mem, shared_of, RattleType, pure_i, Shares, shares_each_from, MutSlice, ShrSlice, Room, slice_val, shr_slice_at, elements_shared, nothing, at, cut_app, join_app, length_app}
 
 module _ {M : Type 1} {𝓤 : Ura M} (𝓛 : Logic 𝓤) (R : RattleType) (ℓ ℓ' : Lifetime) (κ : Lft) (shares : Shares 𝓛 R κ) (q : Share) (b o : ℕ) (γ : GName) (front back : List R.Denot) where
   open 𝓛 use {H, A}

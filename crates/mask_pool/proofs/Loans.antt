@@ -1,7 +1,7 @@
 -- What a caller knows of a pool whose mask it wrote.
-use Rattle.std.proofs.Common.{◌≡◌, ℕ, ◌+◌, ◌-◌, ◌≤◌, List, length, take, drop, arith, refl, length-take, length-drop}
+use Rattle.std.proofs.Common.{◌≡◌, ℕ, ◌-◌, List, length, drop, arith, refl, length-take, length-drop}
 use Rattle.mask_pool.specs.Mask.{Stretch, words_for, end_of, DoNotOverlap}
-use Rattle.mask_pool.specs.Region.{Region, IsLive, words_of, room_of, Stays, Wrote}
+use Rattle.mask_pool.specs.Region.{Region, IsLive, words_of, Stays, Wrote}
 use Rattle.mask_pool.specs.Loan.{with_words}
 use Rattle.mask_pool.proofs.PartLaws.{length-spliced, part-spliced, part-spliced_apart}
 

@@ -1,5 +1,5 @@
 -- When two masks overlap.
-use Rattle.std.proofs.Common.{◌≡◌, ℕ, ◌+◌, ◌-◌, ◌/◌, ◌<◌, ◌≤◌, ◌⊎◌, inl, inr, ◌↔◌, min, max, arith}
+use Rattle.std.proofs.Common.{ℕ, ◌<◌, ◌≤◌, ◌⊎◌, inl, inr, ◌↔◌, min, max, arith}
 use Rattle.mask_pool.specs.Mask.{Stretch, end_of, HasWord, DoNotOverlap}
 
 -- masks do not overlap exactly where one of them ends before the other begins
@@ -15,6 +15,6 @@ pub apart_by_words : (a b : Stretch) → a.start < end_of a → b.start < end_of
 apart_by_words a b some_a some_b none =
     let cases : DoNotOverlap a b ⊎ (max a.start b.start < min (end_of a) (end_of b)) = grind arith in
     elim cases [
-      inl apart ↦ apart
-    | inr both ↦ absurd (none (max a.start b.start) (omega arith, omega arith) (omega arith, omega arith))
+      | inl apart ↦ apart
+      | inr both ↦ absurd (none (max a.start b.start) (omega arith, omega arith) (omega arith, omega arith))
     ]

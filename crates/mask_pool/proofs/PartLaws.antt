@@ -1,7 +1,6 @@
 -- Parts of a list of words, after some of the words were written.
-use Rattle.std.proofs.Common.{◌≡◌, ℕ, ◌+◌, ◌-◌, ◌<◌, ◌≤◌, min, max, List, ◌++◌, length, get_or, take, drop, slice_range, arith, rules, length-take, length-drop, refl, sym, ap, ◌∙◌}
+use Rattle.std.proofs.Common.{◌≡◌, ℕ, ◌+◌, ◌-◌, ◌≤◌, min, max, List, ◌++◌, length, take, drop, slice_range, arith, rules, length-take, length-drop}
 use Rattle.std.proofs.lemmas.List.{same_lists, places}
-use Rattle.std.proofs.lemmas.Grind.{common_steps, elements}
 
 -- words with ws written over them from s on
 abbrev over : List ℕ → ℕ → List ℕ → List ℕ

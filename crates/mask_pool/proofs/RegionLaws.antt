@@ -1,8 +1,8 @@
 -- What the words of a pool say of the region that it is seen as.
-use Rattle.std.proofs.Common.{◌≡◌, ℕ, ◌+◌, ◌-◌, ◌<◌, ◌≤◌, min, max, List, ◌++◌, length, get_or, take, drop, slice_range, arith, rules, refl, sym, ap, ◌∙◌, length-take}
+use Rattle.std.proofs.Common.{◌≡◌, ℕ, ◌+◌, ◌-◌, ◌≤◌, List, ◌++◌, length, take, drop, slice_range, arith, rules, ap, length-take}
 use Rattle.std.proofs.lemmas.List.{same_lists, places}
-use Rattle.mask_pool.specs.Mask.{Stretch, words_for, end_of}
-use Rattle.mask_pool.specs.Region.{Region, IsLive, words_of, Stays}
+use Rattle.mask_pool.specs.Mask.{Stretch, end_of}
+use Rattle.mask_pool.specs.Region.{Region, IsLive, Stays}
 use Rattle.mask_pool.specs.Loan.{with_words}
 use Rattle.mask_pool.proofs.PartLaws.{refilled, length-refilled, take-refilled, part-refilled_before}
 

@@ -13,7 +13,12 @@ use std::slice;
 impl MaskPool {
     /// Of the words from `start` to `end`, those before `mid`, to be written, and those from `mid` on, to be
     /// read.
-    pub(crate) fn front_beside(&mut self, start: usize, mid: usize, end: usize) -> (&mut [u64], &[u64])
+    pub(crate) fn front_beside(
+        &mut self,
+        start: usize,
+        mid: usize,
+        end: usize,
+    ) -> (&mut [u64], &[u64])
         requires { (start ≤ mid) × (mid ≤ end) × (end ≤ length self.old.words) }
         ensures* writes_back { sem 𝓛 (LendsWords self.entry start result.0) }
         ensures parts { (result.0.now ≡ slice_range self.old.words start mid)
@@ -31,7 +36,12 @@ impl MaskPool {
 
     /// Of the words from `start` to `end`, those from `mid` on, to be written, and those before `mid`, to be
     /// read.
-    pub(crate) fn back_beside(&mut self, start: usize, mid: usize, end: usize) -> (&mut [u64], &[u64])
+    pub(crate) fn back_beside(
+        &mut self,
+        start: usize,
+        mid: usize,
+        end: usize,
+    ) -> (&mut [u64], &[u64])
         requires { (start ≤ mid) × (mid ≤ end) × (end ≤ length self.old.words) }
         ensures* writes_back { sem 𝓛 (LendsWords self.entry mid result.0) }
         ensures parts { (result.0.now ≡ slice_range self.old.words mid end)

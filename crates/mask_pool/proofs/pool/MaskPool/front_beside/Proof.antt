@@ -1,5 +1,5 @@
 -- `front_beside` meets its contract: a walk of its code by hand, and then the law of the loan (`LentBeside`).
-use Rattle.mask_pool.proofs.Steps.{◌≡◌, ℕ, ◌+◌, ◌-◌, ◌*◌, ◌^◌, ◌<◌, ◌≤◌, List, [], ◌∷◌, ◌++◌, length, take, sym, refl, ap, subst, ◌∙◌, arith, length-drop, w64, MutBor, drop_words, take-append-drop, proved, Ura, full_share, Body, named, seq, assign, place, rv_opd, copy, return, Val, vint, vptr, vstruct, vcons, vnil, SProp, ent, emp, id⊢, Lft, GName, Share, ftrue, fsep, flft, fobs, fbor, WpFn, Logic, fact, fact_i, tables, ‵, raw, ◌⊛◌, some, later, at_ret, ◌$◌, ◌∵◌, !, qed, move, keep, drop, use0, use1, use2, split, split3, join, pick, await, fsplit, fjoin, fpack, feq_i, rewrite, suffices, done, Arr, Borrowed, whole, sub, agg, stop, fld, addr, hop, from, lit, of_opd, bin, and_then, no_more, first, blocks, exec, returns, enter, alloc_all, pass_all, free_all, look_at, look_in_at, get, through, sets, sets_last, lands_as, env, Array, u64, usize, uint_Copied, yes, no, follows, follows_then, mem, uint_vals, uint_Tells, uint_Makes, RattleType, owns, Valss, Bor, MutRef, mut_vals, mut_Tells, pure_i, pure_l, plain, mut_ref_to, MutSlice, ShrSlice, Room, slice_val, mut_slice_at, coded_holeys, heres, nothing, owned, heard, only, shape, within, tuple_type, Lasts, lasts, calls_at, triple_of, framed, on_entry, needs, Stays, stay_dropped, walk_of, ends_at, Goes-dropped, Goes-spent_ref, at, at_mul, length-take-le}
+use Rattle.mask_pool.proofs.Steps.{◌≡◌, ℕ, ◌+◌, ◌-◌, ◌*◌, ◌^◌, ◌<◌, ◌≤◌, List, [], ◌∷◌, ◌++◌, length, take, sym, refl, ap, subst, ◌∙◌, arith, length-drop, w64, MutBor, drop_words, take-append-drop, proved, full_share, Body, named, seq, assign, place, rv_opd, copy, return, Val, vstruct, vcons, vnil, emp, id⊢, Lft, GName, ftrue, fsep, flft, fobs, fbor, fact, fact_i, tables, ‵, raw, ◌⊛◌, some, later, at_ret, ◌$◌, ◌∵◌, !, qed, move, keep, drop, use0, use1, use2, split, split3, join, pick, await, fsplit, fjoin, fpack, feq_i, rewrite, suffices, done, Arr, Borrowed, whole, sub, agg, stop, fld, addr, hop, from, lit, of_opd, bin, and_then, no_more, first, blocks, exec, returns, enter, alloc_all, pass_all, free_all, look_at, look_in_at, get, through, sets, sets_last, lands_as, env, Array, u64, usize, uint_Copied, yes, no, follows, follows_then, mem, uint_vals, uint_Tells, uint_Makes, RattleType, owns, Valss, Bor, MutRef, mut_vals, mut_Tells, pure_i, pure_l, plain, mut_ref_to, MutSlice, ShrSlice, Room, slice_val, mut_slice_at, coded_holeys, heres, nothing, owned, heard, only, shape, within, tuple_type, Lasts, lasts, calls_at, triple_of, framed, needs, Stays, stay_dropped, walk_of, ends_at, Goes-dropped, Goes-spent_ref, at, at_mul, length-take-le}
 use Rattle.std.specs.Prelude.{slice_range}
 use Rattle.mask_pool.specs.Region.{Region}
 use Rattle.mask_pool.specs.Loan.{with_words}

@@ -19,12 +19,13 @@ returns-then-end-start c =
     let behind : after ≡ slice_range old.words (end_of into) (end_of other) = cc in
     let cut = range-back old.words after (end_of into) other.start (end_of other) behind (omega arith) (omega arith) c.requires.other_live in
     let same : skipped ≡ other.start - end_of into = omega arith in
-    let read : take (length after - skipped) (drop skipped after) ≡ words_of old other = take_rest after skipped ∙ (ap (λ k. drop k after) same ∙ cut) in
-    ((refl, λ w. ap (λ start. with_words old start w) c.start-then-end-start.ensures),
-     record {
-       writes_back = tt;
-       into = lent;
-       into_len = ap length lent ∙ length-words_of old into c.requires.into_live;
-       other = read;
-       other_len = ap length read ∙ length-words_of old other c.requires.other_live;
-     })
+    let read : take (length after - skipped) (drop skipped after) ≡ words_of old other = take_rest after skipped ∙ (ap (λ k. drop k after) same ∙ cut) in (
+      (refl, λ w. ap (λ start. with_words old start w) c.start-then-end-start.ensures),
+      record {
+        writes_back = tt;
+        into = lent;
+        into_len = ap length lent ∙ length-words_of old into c.requires.into_live;
+        other = read;
+        other_len = ap length read ∙ length-words_of old other c.requires.other_live;
+      },
+    )

@@ -1,4 +1,4 @@
-use Rattle.std.proofs.Common.{◌≡◌, ◌≤◌, ◌+◌, length, sym, ap, refl, arith}
+use Rattle.std.proofs.Common.{sym, ap, arith}
 use Rattle.mask_pool.proofs.RegionLaws.{stays-refilled}
 use Rattle.mask_pool.proofs.pool.MaskPool.take.Goals as goal
 
