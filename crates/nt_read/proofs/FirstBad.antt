@@ -6,7 +6,9 @@ use Rattle.std.proofs.lemmas.List.Elements.{All-nil, All-cons}
 use Rattle.nt_read.specs.declared.lines.FeedFault.{FeedFault}
 use Rattle.nt_read.specs.LineReading.{LineReading, bad, nothing, spelled, line_reading}
 use Rattle.nt_read.specs.Lines.{lines_of, is_bad, first_bad, first_bad_from, IsFirstBadLine}
+use Rattle.nt_read.specs.Line.{IsBadLine}
 use Rattle.nt_read.specs.Feeding.{with_bytes}
+use Rattle.nt_read.proofs.LineLaws.{bad_is_read, read_is_bad}
 
 -- pieces one after another are fed as one
 pub pieces_are_fed : (reader : Result (List ℕ) FeedFault) (pieces : List (List ℕ)) → fold with_bytes reader pieces ≡ with_bytes reader (concat pieces)
@@ -94,6 +96,13 @@ find_first n (line ∷ lines) number h =
       | false ↦ λ good h. found_later n line lines number (good_tested (line_reading line) good) (find_first (n + 1) lines number h)
     ] refl h
 
+-- that no line is read as bad says that none is bad
+none_is_bad : (lines : List (List ℕ)) → NoneBad lines → All (λ line. ¬ IsBadLine line) lines
+none_is_bad lines none k line below is = none k line below (bad_is_read _ is)
+
+none_is_read_bad : (lines : List (List ℕ)) → All (λ line. ¬ IsBadLine line) lines → NoneBad lines
+none_is_read_bad lines none k line below e = none k line below (read_is_bad _ e)
+
 pub first_bad-found : (bytes : List ℕ) (n : ℕ) → (first_bad bytes ≡ Some n) ↔ IsFirstBadLine bytes n
 unfolding first_bad
 first_bad-found bytes n = (
@@ -103,12 +112,15 @@ first_bad-found bytes n = (
     behind = found.behind;
     cut = found.cut;
     number = omega (arith, found.place);
-    none_before = found.none_before;
-    it_is_bad = found.it_is_bad;
+    none_before = none_is_bad found.before found.none_before;
+    it_is_bad = read_is_bad found.line found.it_is_bad;
   },
-  λ is. rw is.cut (first_found 1 is.before is.line is.behind is.none_before is.it_is_bad ∙ ap Some (omega (arith, is.number))),
+  λ is. rw is.cut (first_found 1 is.before is.line is.behind (none_is_read_bad is.before is.none_before) (bad_is_read is.line is.it_is_bad) ∙ ap Some (omega (arith, is.number))),
 )
 
-pub first_bad-none : (bytes : List ℕ) → (first_bad bytes ≡ None) ↔ NoneBad (lines_of bytes)
+pub first_bad-none : (bytes : List ℕ) → (first_bad bytes ≡ None) ↔ All (λ line. ¬ IsBadLine line) (lines_of bytes)
 unfolding first_bad
-first_bad-none bytes = (none_bad 1 (lines_of bytes), none_found 1 (lines_of bytes))
+first_bad-none bytes = (
+  λ h. none_is_bad (lines_of bytes) (none_bad 1 (lines_of bytes) h),
+  λ none. none_found 1 (lines_of bytes) (none_is_read_bad (lines_of bytes) none),
+)

@@ -12,6 +12,7 @@ pub mod LiteralTexts
 pub mod PieceLaws
 pub mod PlaceLaws
 pub mod RawLaws
+pub mod SpelledTriples
 pub mod Splits
 pub mod TermLaws
 pub mod TerminalLaws

@@ -3,6 +3,7 @@ use Rattle.std.specs.Prelude.{◌≡◌, ◌≢◌, ◌⊎◌, ℕ, ◌+◌, Boo
 use Rattle.std.specs.List.{flat_map}
 use Rattle.bm_term.specs.declared.triple.Triple.{Triple}
 use Rattle.nt_read.specs.declared.lines.TheConstants.{LINE_FEED, CARRIAGE_RETURN}
+use Rattle.nt_read.specs.Line.{Spells, SpellsNothing, IsBadLine}
 use Rattle.nt_read.specs.LineReading.{LineReading, bad, nothing, spelled, line_reading}
 
 -- a byte before the first line
@@ -67,12 +68,19 @@ first_bad bytes = first_bad_from 1 (lines_of bytes)
 abbrev pub triples_of : List (List ℕ) → List Triple
 triples_of lines = flat_map (λ line. triples_in (line_reading line)) lines
 
--- line n of the bytes is read as bad, and no line before it
+-- line n of the bytes is bad, and no line before it is
 pub record IsFirstBadLine (bytes : List ℕ) (n : ℕ) : Type 0 where
   pub before : List (List ℕ)
   pub line : List ℕ
   pub behind : List (List ℕ)
   pub cut : lines_of bytes ≡ before ++ line ∷ behind
   pub number : n ≡ length before + 1
-  pub none_before : All (λ line. line_reading line ≢ bad) before
-  pub it_is_bad : line_reading line ≡ bad
+  pub none_before : All (λ line. ¬ IsBadLine line) before
+  pub it_is_bad : IsBadLine line
+
+-- the lines spell these triples, one after another, and no line is bad
+abbrev pub SpellTriples : List (List ℕ) → List Triple → Type 0
+SpellTriples [] triples = triples ≡ []
+SpellTriples (line ∷ lines) triples =
+    (SpellsNothing line × SpellTriples lines triples)
+    ⊎ ((triple : Triple) × (others : List Triple) × Spells line triple × SpellTriples lines others × (triples ≡ triple ∷ others))

@@ -17,8 +17,8 @@ mod terminals;
 mod writing;
 
 pub use file_laws::{
-    first_bad_is_the_first_bad_line, lines_stand_between_line_ends, no_first_bad_is_no_bad_line,
-    pieces_are_fed_as_one,
+    first_bad_is_the_first_bad_line, lines_spell_their_triples, lines_stand_between_line_ends,
+    no_first_bad_is_no_bad_line, pieces_are_fed_as_one,
 };
 pub use laws::{
     a_line_spells_one_triple, a_triple_is_something, spelled_triples_are_triples_of_rdf,
