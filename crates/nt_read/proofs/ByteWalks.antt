@@ -1,6 +1,7 @@
 -- A run that is walked by bytes is the run of characters, where each character beyond ASCII belongs to it.
-use Rattle.std.proofs.Common.{◌≡◌, ℕ, ◌<◌, ◌≤◌, Bool, true, false, nat_le, is_none, if◌then◌else◌, ⊎_elim, Some, None, List, [], ◌∷◌, ◌++◌, refl, ap, ◌∙◌, sym, subst, arith}
+use Rattle.std.proofs.Common.{◌≡◌, ℕ, ◌<◌, ◌≤◌, Bool, true, false, nat_le, is_none, if◌then◌else◌, ⊎_elim, Some, None, List, [], ◌∷◌, ◌++◌, refl, ap, ◌∙◌, sym, subst, arith, take, drop}
 use Rattle.std.proofs.lemmas.Bool.{and_parts, cases_lt}
+use Rattle.std.proofs.lemmas.List.{take-append-drop}
 use Rattle.std.proofs.lemmas.Bool.Decides.{nat_tests}
 use Rattle.std.proofs.lemmas.Str.{encodes-append, encodes-chars, chars-encodes, scalars-chars, encode_ascii}
 use Rattle.std.specs.Cmp.Derive.{both_true}
@@ -89,3 +90,9 @@ raw_high_char c high is =
 
 pub raw_bytes-ends : (text : List ℕ) → IsUtf8 text → EndsWith text (after_run is_raw_byte text) (after_run is_raw_char (chars text))
 raw_bytes-ends text utf8 = byte_run-ends is_raw_byte is_raw_char raw_ascii raw_high_byte raw_high_char text utf8
+
+-- a block of members belongs to the run
+pub block_passed : (p : ℕ → Bool) (n : ℕ) (rest block after : List ℕ) → block ≡ take n rest → after ≡ drop n rest → list_all p block ≡ true → after_run p after ≡ after_run p rest
+block_passed p n rest block after front back all =
+    let whole : block ++ after ≡ rest = rw (front, back) (take-append-drop n rest) in
+    sym (after_run-append p block after all) ∙ ap (after_run p) whole

@@ -1,20 +1,23 @@
 -- A text that is raw between its marks stands for itself.
-use Rattle.std.proofs.Common.{◌≡◌, ℕ, Bool, true, is_none, inl, Option, Some, None, List, [], ◌∷◌, ◌++◌, refl, ap, ◌∙◌, sym, arith, append_assoc}
+use Rattle.std.proofs.Common.{◌≡◌, ℕ, Bool, true, is_none, inl, Option, Some, None, List, [], ◌∷◌, ◌++◌, refl, ap, ◌∙◌, sym, arith, append_assoc, length, ◌≤◌}
 use Rattle.std.proofs.lemmas.Bool.{and_parts}
 use Rattle.std.proofs.lemmas.Bool.Decides.{nat_tests}
+use Rattle.std.proofs.lemmas.List.Concat.{flat_map-append}
+use Rattle.std.proofs.lemmas.Str.{encodes-append, encodes-chars}
 use Rattle.std.specs.List.{list_all}
-use Rattle.bm_term.specs.Canonical.{iri, plain, blank, canonical_chars, escape_letter, escaped}
+use Rattle.std.specs.Str.{chars, IsUtf8, encode_utf8_all}
+use Rattle.bm_term.specs.Canonical.{iri, plain, blank, canonical_chars, escape_letter, escaped, spelling}
 use Rattle.bm_term.specs.Classes.{is_scalar, is_irichar, is_nt_label_first, is_nt_pn_chars}
 use Rattle.bm_term.specs.Marks.{less_than, greater_than, quotation_mark, low_line, colon}
 use Rattle.bm_term.specs.Names.{after_dotted_name}
 use Rattle.bm_term.specs.Repetition.{Star}
 use Rattle.bm_term.specs.Text.{after_char, after_run, before, HasRest}
-use Rattle.bm_term.proofs.TextLemmas.{after_char-some, after_run-split, before-append}
+use Rattle.bm_term.proofs.TextLemmas.{after_char-some, after_run-split, before-append, length-after_run}
 use Rattle.nt_read.specs.Found.{is_raw_char, behind_first}
-use Rattle.nt_read.specs.Pieces.{values}
+use Rattle.nt_read.specs.Pieces.{pieces, values, after_values}
 use Rattle.nt_read.specs.Terminals.{IsIriPiece, IsStringPiece, is_string_char}
 use Rattle.nt_read.specs.TerminalReading.{iri_piece, string_piece, read_iri_ref, read_string, read_label}
-use Rattle.nt_read.proofs.PieceLaws.{passed_to_end}
+use Rattle.nt_read.proofs.PieceLaws.{passed, passed_to_end}
 use Rattle.nt_read.proofs.CharacterLaws.{iri_piece-forward, iri_piece-over, iri_piece-closed, string_piece-forward, string_piece-over, string_piece-closed}
 use Rattle.nt_read.proofs.TerminalRules.{iri_ref-again, string-again}
 
@@ -103,6 +106,49 @@ string_run_is_canonical text rest begins =
     begins.cut
     ∙ ap (λ cs. quotation_mark ∷ (cs ++ quotation_mark ∷ [])) (sym (escaped-raw begins.run begins.all))
     ∙ ap (λ cs. quotation_mark ∷ (escaped cs ++ quotation_mark ∷ [])) (sym (string_run_values text rest begins))
+
+-- what stands raw in front of a text
+pub record RawPrefix (text : List ℕ) : Type 0 where
+  pub run : List ℕ
+  pub has : HasRest text (after_run is_raw_char text)
+  pub cut : before text (after_run is_raw_char text) ≡ run
+  pub raw : escaped run ≡ run
+  pub found : values string_piece text ≡ run ++ values string_piece (after_run is_raw_char text)
+  pub after : after_values string_piece text ≡ after_values string_piece (after_run is_raw_char text)
+
+pub raw_prefix : (text : List ℕ) → RawPrefix text
+raw_prefix text =
+    let (run, all, split) = after_run-split is_raw_char text in
+    let end = after_run is_raw_char text in
+    let read = ap (pieces string_piece) split ∙ passed string_piece string_piece-forward IsStringPiece string_piece-over run run end (raw_string run all) in
+    record {
+      run = run;
+      has = (run, split);
+      cut = ap (λ xs. before xs end) split ∙ before-append run end;
+      raw = escaped-raw run all;
+      found = ap (λ (p : List ℕ × List ℕ). p.0) read;
+      after = ap (λ (p : List ℕ × List ℕ). p.1) read;
+    }
+
+pub after_raw_values : (text : List ℕ) → after_values string_piece (after_run is_raw_char text) ≡ after_values string_piece text
+after_raw_values text = sym (raw_prefix text).after
+
+pub length-after_raw : (text : List ℕ) → length (after_run is_raw_char text) ≤ length text
+length-after_raw text = length-after_run is_raw_char text
+
+pub ruleset raw_strings = (after_raw_values, length-after_raw)
+
+-- what is written of it, raw, leaves the rest to be written
+pub raw_is_written : (text front rest out new : List ℕ) → chars front ≡ before text rest → rest ≡ after_run is_raw_char text → IsUtf8 front → new ≡ out ++ front
+    → new ++ encode_utf8_all (escaped (values string_piece rest)) ≡ out ++ encode_utf8_all (escaped (values string_piece text))
+raw_is_written text front rest out new cut end utf8 pushed =
+    let prefix = raw_prefix text in
+    let run : front ≡ encode_utf8_all prefix.run = sym (encodes-chars front utf8) ∙ ap encode_utf8_all (cut ∙ ap (before text) end ∙ prefix.cut) in
+    let spelled : escaped (values string_piece text) ≡ prefix.run ++ escaped (values string_piece rest) =
+    ap escaped prefix.found ∙ flat_map-append spelling prefix.run (values string_piece (after_run is_raw_char text)) ∙ ap (λ xs. xs ++ escaped (values string_piece (after_run is_raw_char text))) prefix.raw ∙ ap (λ xs. prefix.run ++ escaped (values string_piece xs)) (sym end) in
+    ap (λ xs. xs ++ encode_utf8_all (escaped (values string_piece rest))) (pushed ∙ ap (λ xs. out ++ xs) run)
+    ∙ append_assoc out (encode_utf8_all prefix.run) (encode_utf8_all (escaped (values string_piece rest)))
+    ∙ ap (λ xs. out ++ xs) (sym (ap encode_utf8_all spelled ∙ encodes-append prefix.run (escaped (values string_piece rest))))
 
 -- a label with its mark stands in front of a text
 pub record BeginsWithLabel (text rest : List ℕ) : Type 0 where

@@ -1,6 +1,9 @@
 // Runs of characters that are walked byte by byte, and walks over the characters of an IRI and of a string.
-ghost use Rattle.std.specs.Prelude.{◌≡◌};
+ghost use Rattle.std.specs.Prelude.{◌≡◌, ℕ, Bool};
+ghost use Rattle.std.specs.List.{list_all};
 ghost use Rattle.std.specs.Str.{chars, IsUtf8};
+ghost use Rattle.bm_term.specs.Classes.{is_irichar};
+ghost use Rattle.bm_term.specs.Reading.{is_iri_byte};
 ghost use Rattle.bm_term.specs.Text.{HasRest, after_run};
 ghost use Rattle.nt_read.specs.Found.{is_raw_char, is_raw_byte};
 ghost use Rattle.nt_read.specs.Pieces.{after_values};
@@ -8,20 +11,84 @@ ghost use Rattle.nt_read.specs.TerminalReading.{iri_piece, string_piece};
 
 use crate::escapes::{iri_piece, string_piece};
 
+/// The text after the longest run of `IRICHAR` that it begins with.
+pub fn after_irichars(text: &str) -> &str
+    ensures { chars result.now ≡ after_run is_irichar (chars text.now) }
+{
+    end_of(text, after_byte_run(text.as_bytes(), IriByte))
+}
+
 /// The text after the longest run of characters that stand for themselves in a canonical literal.
 pub fn after_raw_chars(text: &str) -> &str
     ensures { chars result.now ≡ after_run is_raw_char (chars text.now) }
 {
-    end_of(text, after_raw_bytes(text.as_bytes()))
+    end_of(text, after_byte_run(text.as_bytes(), RawByte))
 }
 
-#[tactic(auto, unfolding(bm_term::specs::Text::after_run))]
-fn after_raw_bytes(bytes: &[u8]) -> &[u8]
-    ensures { result.now ≡ after_run is_raw_byte bytes.now }
+// How many bytes are tested at once.
+const BLOCK: usize = 16;
+
+// A class of bytes, whose test takes no branch.
+trait ByteClass: Copy {
+    ghost members: { ℕ → Bool };
+
+    fn has(self, b: u8) -> bool
+        ensures { result ≡ members b };
+}
+
+// The bytes of IRICHARs: each byte of a character beyond ASCII, which all are members.
+#[derive(Clone, Copy)]
+struct IriByte;
+
+impl ByteClass for IriByte {
+    ghost members = { is_iri_byte };
+
+    #[tactic(auto, unfolding(bm_term::specs::Reading::is_iri_byte, bm_term::specs::Classes::is_irichar, bm_term::specs::Classes::is_scalar))]
+    fn has(self, b: u8) -> bool {
+        (b > 0x20)
+            & (b != b'"')
+            & (b != b'<')
+            & (b != b'>')
+            & (b != b'\\')
+            & (b != b'^')
+            & (b != b'`')
+            & (b != b'{')
+            & (b != b'|')
+            & (b != b'}')
+    }
+}
+
+// The bytes of characters that stand for themselves in a canonical literal.
+#[derive(Clone, Copy)]
+struct RawByte;
+
+impl ByteClass for RawByte {
+    ghost members = { is_raw_byte };
+
+    #[tactic(auto, unfolding(crate::specs::Found::is_raw_byte, bm_term::specs::Canonical::escape_letter))]
+    fn has(self, b: u8) -> bool {
+        (b != b'"') & (b != b'\\') & (b != b'\n') & (b != b'\r') & (b != b'\t')
+    }
+}
+
+// Whether all bytes are members. Each is tested, so that the test is made for many at once.
+fn are_members<C: ByteClass>(block: &[u8], class: C) -> bool
+    ensures { result ≡ list_all C.members block.now }
+{
+    let mut all = true;
+    for b in block {
+        all &= class.has(*b);
+    }
+    all
+}
+
+// What is left behind blocks of members.
+fn after_blocks<C: ByteClass>(bytes: &[u8], class: C) -> &[u8]
+    ensures { after_run C.members result.now ≡ after_run C.members bytes.now }
 {
     let mut rest = bytes;
-    while let [b, after @ ..] = rest {
-        if !is_raw_byte(*b) {
+    while let Some((block, after)) = rest.split_at_checked(BLOCK) {
+        if !are_members(block, class) {
             break;
         }
         rest = after;
@@ -29,11 +96,18 @@ fn after_raw_bytes(bytes: &[u8]) -> &[u8]
     rest
 }
 
-#[tactic(auto, unfolding(crate::specs::Found::is_raw_byte, bm_term::specs::Canonical::escape_letter))]
-fn is_raw_byte(b: u8) -> bool
-    ensures { result ≡ is_raw_byte b }
+#[tactic(auto, unfolding(bm_term::specs::Text::after_run))]
+fn after_byte_run<C: ByteClass>(bytes: &[u8], class: C) -> &[u8]
+    ensures { result.now ≡ after_run C.members bytes.now }
 {
-    !matches!(b, b'"' | b'\\' | b'\n' | b'\r' | b'\t')
+    let mut rest = after_blocks(bytes, class);
+    while let [b, after @ ..] = rest {
+        if !class.has(*b) {
+            break;
+        }
+        rest = after;
+    }
+    rest
 }
 
 // The end of a text, which has these bytes.
@@ -59,13 +133,13 @@ pub fn after_iri_pieces(text: &str) -> &str
 }
 
 /// The text after the characters of a string.
-#[tactic(auto, using(crate::proofs::CharacterLaws::string_pieces))]
+#[tactic(auto, using(crate::proofs::CharacterLaws::string_pieces, crate::proofs::RawLaws::raw_strings))]
 pub fn after_string_pieces(text: &str) -> &str
     ensures { chars result.now ≡ after_values string_piece (chars text.now) }
 {
-    let mut rest = text;
+    let mut rest = after_raw_chars(text);
     while let Some((_, after)) = string_piece(rest) {
-        rest = after;
+        rest = after_raw_chars(after);
     }
     rest
 }

@@ -7,9 +7,9 @@ ghost use Rattle.nt_read.specs.Found.{iri_of, lexical_of, label_of, tag_of, IsIr
 ghost use Rattle.nt_read.specs.TerminalReading.{read_iri_body, read_iri_ref, read_string_body, read_string, read_langtag, read_label};
 
 use crate::found::Quoted;
-use crate::runs::{after_iri_pieces, after_raw_chars, after_string_pieces};
+use crate::runs::{after_iri_pieces, after_irichars, after_raw_chars, after_string_pieces};
 use bm_term::{
-    Alphanumeric, Letter, NtLabelFirst, NtPnChars, after_char, after_dotted_name, after_irichars,
+    Alphanumeric, Letter, NtLabelFirst, NtPnChars, after_char, after_dotted_name,
     after_language_tag, before,
 };
 

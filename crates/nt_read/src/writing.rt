@@ -1,5 +1,5 @@
 // The canonical texts of the terms of a line.
-ghost use Rattle.std.specs.Prelude.{◌≡◌, ℕ, List, [], ◌∷◌, ◌++◌, map, IfOk, OnOk, string_bytes};
+ghost use Rattle.std.specs.Prelude.{◌≤◌, length, ◌≡◌, ℕ, List, [], ◌∷◌, ◌++◌, map, IfOk, OnOk, string_bytes};
 ghost use Rattle.std.specs.Char.{to_ascii_lowercase};
 ghost use Rattle.std.specs.Str.{chars, encode_utf8_all, IsUtf8};
 ghost use Rattle.bm_term.specs.Canonical.{iri, plain, tagged, escaped, IsTerm, canonical_text};
@@ -11,7 +11,8 @@ ghost use Rattle.nt_read.specs.TerminalReading.{iri_piece, string_piece};
 
 use crate::escapes::{iri_piece, string_piece};
 use crate::found::{FoundTerm, FoundTriple, LiteralTail, Quoted};
-use bm_term::{Term, Triple, push_spelling, split_char};
+use crate::runs::after_raw_chars;
+use bm_term::{Term, Triple, before, push_spelling, split_char};
 use std::alloc::{AllocError, Global};
 
 const XSD_STRING: &str = "<http://www.w3.org/2001/XMLSchema#string>";
@@ -30,16 +31,30 @@ fn push_iri_pieces(out: &mut String, text: &str) -> Result<(), AllocError>
 }
 
 // Writes the characters of a string, each in its one spelling.
-#[tactic(auto, using(crate::proofs::CharacterLaws::string_pieces))]
+#[tactic(auto, using(crate::proofs::CharacterLaws::string_pieces, crate::proofs::RawLaws::raw_strings))]
 fn push_string_pieces(out: &mut String, text: &str) -> Result<(), AllocError>
     ensures { OnOk result (string_bytes out.new ≡ string_bytes out.old ++ encode_utf8_all (escaped (values string_piece (chars text.now)))) }
 {
-    let mut rest = text;
+    let mut rest = push_raw(out, text)?;
     while let Some((c, after)) = string_piece(rest) {
         push_spelling(out, c)?;
-        rest = after;
+        rest = push_raw(out, after)?;
     }
     Ok(())
+}
+
+// Writes those that stand raw in front, and gives the text after them.
+#[tactic(auto, using(crate::proofs::RawLaws::raw_strings))]
+fn push_raw<'a>(out: &mut String, text: &'a str) -> Result<&'a str, AllocError>
+    ensures written { IfOk result (λ rest.
+        string_bytes out.new ++ encode_utf8_all (escaped (values string_piece (chars rest.now)))
+        ≡ string_bytes out.old ++ encode_utf8_all (escaped (values string_piece (chars text.now)))) }
+    ensures utf8 { IfOk result (λ rest. IsUtf8 rest.now) }
+    ensures forward { IfOk result (λ rest. length (chars rest.now) ≤ length (chars text.now)) }
+{
+    let rest = after_raw_chars(text);
+    out.push_str(before(text, rest))?;
+    Ok(rest)
 }
 
 // Writes a language tag in lower case.

@@ -11,7 +11,7 @@ use Rattle.nt_read.proofs.writing.push_string_pieces.Given as goal
 abbrev pub invariant-loop-c : goal.invariant-loop-c
 invariant-loop-c l =
     shadow (Utf8 l.rest)
-    × (string_bytes l.out ++ encode_utf8_all (escaped (values string_piece (chars l.rest))) ≡ string_bytes l.initial.out ++ encode_utf8_all (escaped (values string_piece (chars l.text))))
+    × (string_bytes l.out ++ encode_utf8_all (escaped (values string_piece (chars l.rest))) ≡ string_bytes l.fn.out ++ encode_utf8_all (escaped (values string_piece (chars l.fn.text))))
 
 abbrev pub decreases-loop-c : goal.decreases-loop-c
 decreases-loop-c l = length (chars l.rest)
