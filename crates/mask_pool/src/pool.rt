@@ -3,7 +3,7 @@
 ghost use Rattle.std.specs.Prelude.{◌≡◌, ◌+◌, ◌≤◌, ◌<◌, ◌↔◌, ℕ, [], IfOk, length, slice_range};
 ghost use Rattle.std.specs.Borrow.{sem};
 ghost use Rattle.mask_pool.specs.Mask.{Stretch, words_for, DoNotOverlap, Has};
-ghost use Rattle.mask_pool.specs.Region.{Region, room_of, IsLive, words_of, Stays};
+ghost use Rattle.mask_pool.specs.Region.{Region, room_of, IsLive, words_of, IsIn, Stays};
 ghost use Rattle.mask_pool.specs.Loan.{LendsMask, LendsWords};
 
 use crate::masks::Mask;
@@ -53,8 +53,8 @@ impl MaskPool {
         requires { words_for bits ≤ self.old.spare }
         ensures bits { result.bits ≡ bits }
         ensures live { IsLive self.new result }
-        // No bit at or beyond its number of bits is set either.
-        ensures full { (n : ℕ) → Has (words_of self.new result) n ↔ (n < bits) }
+        ensures full { (n : ℕ) → IsIn self.new result n ↔ (n < bits) }
+        ensures none_beyond { (n : ℕ) → Has (words_of self.new result) n → n < bits }
         ensures apart { (m : Stretch) → IsLive self.old m → DoNotOverlap m result }
         ensures others { (m : Stretch) → IsLive self.old m → Stays self.old self.new m }
         ensures spare { self.new.spare + words_for bits ≡ self.old.spare }

@@ -1,6 +1,6 @@
 ghost use Rattle.std.specs.Prelude.{◌≡◌, ◌<◌, ◌↔◌, ℕ, length, replicate, IfOk};
-ghost use Rattle.mask_pool.specs.Mask.{Stretch, DoNotOverlap, Has, words_for};
-ghost use Rattle.mask_pool.specs.Region.{IsLive, words_of};
+ghost use Rattle.mask_pool.specs.Mask.{Stretch, DoNotOverlap, words_for};
+ghost use Rattle.mask_pool.specs.Region.{IsLive, IsIn, words_of};
 
 use super::*;
 use std::alloc::{AllocError, Global};
@@ -42,7 +42,7 @@ fn copy_mask(pool: &mut MaskPool, into: Mask, other: Mask)
 /// Of two masks of three words the second is emptied, and the first is full still.
 #[tactic(auto, using(crate::proofs::Loans::loans))]
 fn second_is_cleared(alloc: Global) -> Result<(MaskPool, Mask), AllocError>
-    ensures full { IfOk result (λ r. (n : ℕ) → Has (words_of r.0 r.1) n ↔ (n < 65)) }
+    ensures full { IfOk result (λ r. (n : ℕ) → IsIn r.0 r.1 n ↔ (n < 65)) }
     ensures live { IfOk result (λ r. IsLive r.0 r.1) }
 {
     let mut pool = MaskPool::with_room(alloc, 3)?;

@@ -8,9 +8,7 @@ pub fn fill(words: &mut [u64], bits: u32)
     requires { length words.old ≡ words_for bits }
     ensures { (n : ℕ) → Has words.new n ↔ (n < bits) }
 {
-    for word in words.iter_mut() {
-        *word = u64::MAX;
-    }
+    words.fill(u64::MAX);
     if bits % 64 > 0 {
         words[bits as usize / 64] = (1 << (bits % 64)) - 1;
     }
