@@ -4,3 +4,7 @@ pub mod Iris
 pub mod QuotedStrings
 pub mod BlankRuns
 pub mod LocalNames
+pub mod Reached
+pub mod NumberTexts
+pub mod PrefixTexts
+pub mod TokenTexts
