@@ -1,14 +1,13 @@
 -- White space and comments: what is dropped is the longest text of them.
-use Rattle.std.proofs.Common.{◌≡◌, ℕ, ◌<◌, ◌≤◌, Bool, true, false, ◌==◌, ◌||◌, not, if◌then◌else◌, ◌⊎◌, inl, inr, Option, Some, None, List, [], ◌∷◌, ◌++◌, length, refl, ap, ◌∙◌, sym, subst, arith, append_assoc, length-append}
-use Rattle.std.specs.List.{list_all}
+use Rattle.std.proofs.Common.{◌≡◌, ℕ, ◌≤◌, true, false, ◌==◌, if◌then◌else◌, inl, inr, Some, None, List, [], ◌∷◌, ◌++◌, length, refl, ap, ◌∙◌, arith, append_assoc, length-append}
 use Rattle.std.proofs.lemmas.Bool.{eqb-true}
 use Rattle.std.proofs.lemmas.Option.{same_Some}
-use Rattle.bm_term.specs.Text.{after_run, IsLongest}
-use Rattle.bm_term.specs.Repetition.{Star, after_pieces}
+use Rattle.bm_term.specs.Text.{after_run}
+use Rattle.bm_term.specs.Repetition.{Star}
 use Rattle.bm_term.proofs.RepetitionLemmas.{GoesForward, splits}
-use Rattle.bm_term.proofs.TextLemmas.{after_run-split, after_run-append, after_run-stop, length-after_run}
-use Rattle.query_tokens.specs.Blanks.{is_line_end, is_white_space, is_comment_char, IsComment, IsBlank, AreBlanks, after_blank, after_blanks}
-use Rattle.query_tokens.proofs.Walks.{Passed, IsSound, HaveLength, passes, forward, length-after_pieces, after_pieces-more, after_pieces-none}
+use Rattle.bm_term.proofs.TextLemmas.{after_run-split, after_run-append, length-after_run}
+use Rattle.query_tokens.specs.Blanks.{is_white_space, is_comment_char, IsBlank, AreBlanks, after_blank, after_blanks}
+use Rattle.query_tokens.proofs.Walks.{Passed, IsSound, HaveLength, passes, forward, after_pieces-more, after_pieces-none}
 
 blank-sound : IsSound IsBlank after_blank
 unfolding after_blank

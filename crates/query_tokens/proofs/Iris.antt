@@ -1,11 +1,11 @@
 -- IRIs between angle brackets: what is read is one, and each is read.
-use Rattle.std.proofs.Common.{◌≡◌, ℕ, ◌<◌, Bool, true, false, ◌==◌, if◌then◌else◌, ◌⊎◌, inl, inr, Option, Some, None, List, [], ◌∷◌, ◌++◌, length, refl, ap, ◌∙◌, sym, subst, arith, append_assoc}
+use Rattle.std.proofs.Common.{◌≡◌, ℕ, true, false, ◌==◌, if◌then◌else◌, inl, inr, Some, None, List, [], ◌∷◌, ◌++◌, refl, ap, ◌∙◌, sym, subst, arith, append_assoc}
 use Rattle.std.proofs.lemmas.Bool.{eqb-true}
 use Rattle.std.proofs.lemmas.Option.{cond_some, option_and_then_some}
 use Rattle.bm_term.specs.Classes.{is_irichar, is_scalar}
 use Rattle.bm_term.specs.Repetition.{after_pieces}
 use Rattle.bm_term.proofs.RepetitionLemmas.{GoesForward}
-use Rattle.query_tokens.specs.Uchar.{IsUchar, read_uchar}
+use Rattle.query_tokens.specs.Uchar.{read_uchar}
 use Rattle.query_tokens.specs.Iriref.{IsIriPiece, SpellsIri, IsIriref, after_iri_escape, after_iri_piece, after_iri}
 use Rattle.query_tokens.proofs.Uchars.{read_uchar-reads, read_uchar-again}
 use Rattle.query_tokens.proofs.Walks.{Passed, IsSound, HaveLength, PassesEach, forward, closed, closed_again, after_pieces-more, after_pieces-none}

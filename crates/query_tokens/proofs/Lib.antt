@@ -8,3 +8,5 @@ pub mod Reached
 pub mod NumberTexts
 pub mod PrefixTexts
 pub mod TokenTexts
+pub mod TokenLists
+pub mod OneList

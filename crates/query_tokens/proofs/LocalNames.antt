@@ -1,6 +1,5 @@
 -- Local names: what is read is the longest one.
-use Rattle.std.proofs.Common.{◌≡◌, ℕ, ◌<◌, ◌≤◌, Bool, true, false, ◌==◌, ◌||◌, if◌then◌else◌, ◌⊎◌, inl, inr, Option, Some, None, List, [], ◌∷◌, ◌++◌, length, refl, ap, ◌∙◌, sym, subst, arith, append_assoc, append-nil, length-append}
-use Rattle.std.specs.Prelude.{option_and_then}
+use Rattle.std.proofs.Common.{◌≡◌, ℕ, ◌<◌, ◌≤◌, Bool, true, false, ◌==◌, ◌||◌, if◌then◌else◌, inl, inr, Some, None, List, [], ◌∷◌, ◌++◌, length, refl, ap, ◌∙◌, sym, subst, arith, append_assoc, append-nil, length-append}
 use Rattle.std.specs.List.{list_all}
 use Rattle.std.specs.Option.{option_map}
 use Rattle.std.specs.Cmp.Derive.{both_true}
@@ -14,7 +13,7 @@ use Rattle.bm_term.specs.Repetition.{Star, after_pieces}
 use Rattle.bm_term.proofs.RepetitionLemmas.{GoesForward, splits}
 use Rattle.bm_term.proofs.Longest.{Sound, Reaches}
 use Rattle.bm_term.proofs.TextLemmas.{after_run-split, after_run-append, after_run-stop}
-use Rattle.query_tokens.specs.PrefixedNames.{is_local_escape, IsPlx, IsLocalPiece, is_local_first, is_local_inner, IsLocalRest, SpellsLocal, IsLocal, after_one, after_two_digits, after_local_piece, is_full_stop, after_dotted_piece, after_local}
+use Rattle.query_tokens.specs.PrefixedNames.{is_local_escape, IsLocalPiece, is_local_first, is_local_inner, IsLocalRest, IsLocal, after_one, after_two_digits, after_local_piece, is_full_stop, after_dotted_piece, after_local}
 use Rattle.query_tokens.proofs.Walks.{Passed, IsSound, HaveLength, PassesEach, passes, forward, length-after_pieces, after_pieces-more, after_pieces-none}
 
 pub record OneMember (members : ℕ → Bool) (text rest : List ℕ) : Type 0 where
@@ -140,10 +139,10 @@ pub ruleset dotted_pieces = (dotted_piece-forward, dotted_pieces-more, dotted_pi
 inner_begins : (piece value rest : List ℕ) → IsLocalPiece is_local_inner piece value → after_run is_full_stop (piece ++ rest) ≡ piece ++ rest
 inner_begins piece value rest (inl (c, is, spelled, same)) =
     let other : is_full_stop c ≡ false =
-        elim (c == 46) as (λ v. (c == 46) ≡ v → v ≡ false) [
-          | true ↦ λ e. let member : is_local_inner 46 ≡ true = subst (λ x. is_local_inner x ≡ true) (eqb-true c 46 e) is in absurd (cc inner_no_full_stop)
-          | false ↦ λ e. refl
-        ] refl in
+    elim (c == 46) as (λ v. (c == 46) ≡ v → v ≡ false) [
+      | true ↦ λ e. let member : is_local_inner 46 ≡ true = subst (λ x. is_local_inner x ≡ true) (eqb-true c 46 e) is in absurd (cc inner_no_full_stop)
+      | false ↦ λ e. refl
+    ] refl in
     rw spelled (after_run-stop is_full_stop c rest other)
 inner_begins piece value rest (inr (inl (a, b, a_hex, b_hex, spelled, same))) = rw spelled (after_run-stop is_full_stop 37 (a ∷ b ∷ rest) refl)
 inner_begins piece value rest (inr (inr (c, is, spelled, same))) = rw spelled (after_run-stop is_full_stop 92 (c ∷ rest) refl)
@@ -176,7 +175,7 @@ pieces_reach (v ∷ before) dots middle last value more all (front, others, inl 
           (goes_over dots front v (others ++ tail) more all (inl (c, inner, spelled, same)) (pieces_reach before [] others last value more refl star is))
       | false ↦ λ inner stop.
           let whole : dots ++ (middle ++ tail) ≡ (dots ++ c ∷ []) ++ (others ++ tail) =
-              ap (λ xs. dots ++ (xs ++ tail)) (split ∙ ap (λ xs. xs ++ others) spelled) ∙ sym (append_assoc dots (c ∷ []) (others ++ tail)) in
+          ap (λ xs. dots ++ (xs ++ tail)) (split ∙ ap (λ xs. xs ++ others) spelled) ∙ sym (append_assoc dots (c ∷ []) (others ++ tail)) in
           rw whole (pieces_reach before (dots ++ c ∷ []) others last value more (rw list_all-append (both_true all (both_true stop refl))) star is)
     ] refl dotted
 pieces_reach (v ∷ before) dots middle last value more all (front, others, inr plx, star, split) is =
@@ -234,8 +233,7 @@ rest_more text others value found (values, inr (middle, last, end, before, star,
     let (dots, dots_star) = dots_are_pieces found.dots found.are_dots in
     let P = IsLocalPiece (is_dotted is_local_inner) in
     let piece_star : Star P (found.piece ++ middle) (value ∷ before) = (found.piece, middle, wider found.piece value found.is, star, refl) in
-    let whole : text ++ others ≡ (found.dots ++ (found.piece ++ middle)) ++ last = rw (found.spelled, split) (simp append_assoc) in
-    (
+    let whole : text ++ others ≡ (found.dots ++ (found.piece ++ middle)) ++ last = rw (found.spelled, split) (simp append_assoc) in (
       (dots ++ value ∷ before) ++ end ∷ [],
       inr (found.dots ++ (found.piece ++ middle), last, end, dots ++ value ∷ before, star_append P dots (value ∷ before) found.dots (found.piece ++ middle) dots_star piece_star, is, whole, refl),
     )
@@ -253,8 +251,7 @@ after_local-sound text rest e =
           let first = local_piece-sound is_local_first text behind found in
           let (front, vs, star, split) = splits IsDottedPiece after_dotted_piece (passes IsDottedPiece after_dotted_piece dotted_piece-sound) dotted_piece-forward behind in
           let (values, is_rest) = rest_of vs front star in
-          let end = same_Some (after_pieces after_dotted_piece behind) rest h in
-          (
+          let end = same_Some (after_pieces after_dotted_piece behind) rest h in (
             first.front ++ front,
             (first.value ∷ values, (first.front, front, first.value, values, first.piece, is_rest, refl, refl)),
             first.split ∙ ap (λ xs. first.front ++ xs) (split ∙ ap (λ xs. front ++ xs) end) ∙ sym (append_assoc first.front front rest),

@@ -1,12 +1,11 @@
 -- Prefixes, prefixed names and words: what is read is the longest of them.
-use Rattle.std.proofs.Common.{◌≡◌, ℕ, ◌<◌, ◌≤◌, Bool, true, false, ◌==◌, ◌||◌, ◌&&◌, if◌then◌else◌, ◌⊎◌, inl, inr, Option, Some, None, List, [], ◌∷◌, ◌++◌, length, refl, ap, ◌∙◌, sym, subst, arith, append_assoc, length-append}
-use Rattle.std.specs.Prelude.{option_and_then}
+use Rattle.std.proofs.Common.{◌≡◌, ℕ, ◌<◌, ◌≤◌, Bool, true, false, ◌==◌, ◌||◌, if◌then◌else◌, ◌⊎◌, inl, inr, Some, None, List, [], ◌∷◌, ◌++◌, length, refl, ap, ◌∙◌, sym, subst, arith, append_assoc, length-append}
 use Rattle.std.specs.List.{list_all}
 use Rattle.std.specs.Option.{option_map, option_map_or}
-use Rattle.std.proofs.lemmas.Bool.{eqb-true, and_parts}
+use Rattle.std.proofs.lemmas.Bool.{and_parts}
 use Rattle.std.proofs.lemmas.Option.{option_and_then_some, same_Some}
-use Rattle.bm_term.specs.Classes.{is_digit, is_letter, is_pn_chars_base, is_sparql_pn_chars_u, is_pn_chars_more, is_sparql_pn_chars}
-use Rattle.bm_term.specs.Names.{is_dotted, IsDottedRest, IsDottedName, dotted_end, after_dotted_name}
+use Rattle.bm_term.specs.Classes.{is_letter, is_pn_chars_base, is_sparql_pn_chars_u, is_pn_chars_more, is_sparql_pn_chars}
+use Rattle.bm_term.specs.Names.{is_dotted, IsDottedName, dotted_end, after_dotted_name}
 use Rattle.bm_term.specs.Text.{after_char, after_run, after_some, IsRun}
 use Rattle.bm_term.proofs.TextLemmas.{length-after_run, after_char-some, after_some-some, after_some-append}
 use Rattle.bm_term.proofs.DottedNames.{after_dotted_name-sound}

@@ -1,5 +1,5 @@
 -- Strings between marks, and three marks: what is read is one, and each is read.
-use Rattle.std.proofs.Common.{◌≡◌, ◌≢◌, ℕ, ◌<◌, ◌≤◌, Bool, true, false, ◌==◌, ◌||◌, not, is_some, if◌then◌else◌, ◌⊎◌, inl, inr, Option, Some, None, List, [], ◌∷◌, ◌++◌, length, refl, ap, ◌∙◌, sym, subst, arith, append_assoc}
+use Rattle.std.proofs.Common.{◌≡◌, ℕ, true, false, ◌==◌, ◌||◌, not, is_some, if◌then◌else◌, inl, inr, Option, Some, None, List, [], ◌∷◌, ◌++◌, refl, ap, ◌∙◌, sym, subst, arith, append_assoc}
 use Rattle.std.specs.Option.{option_map}
 use Rattle.std.proofs.lemmas.Bool.{eqb-true, eq-eqb}
 use Rattle.std.proofs.lemmas.Bool.Decides.{nat_tests}
@@ -10,7 +10,7 @@ use Rattle.bm_term.specs.Repetition.{Star, after_pieces}
 use Rattle.bm_term.proofs.RepetitionLemmas.{GoesForward}
 use Rattle.query_tokens.specs.Marks.{is_quote}
 use Rattle.query_tokens.specs.Uchar.{IsUchar, read_uchar}
-use Rattle.query_tokens.specs.Strings.{is_raw, IsEchar, IsStringPiece, SpellsString, IsQuoted, after_escape, after_string_piece, after_string}
+use Rattle.query_tokens.specs.Strings.{is_raw, IsStringPiece, IsQuoted, after_escape, after_string_piece, after_string}
 use Rattle.query_tokens.proofs.Uchars.{read_uchar-reads, read_uchar-again}
 use Rattle.query_tokens.proofs.Walks.{Passed, IsSound, HaveLength, PassesEach, forward, closed, closed_again, after_pieces-more, after_pieces-none}
 
@@ -106,8 +106,7 @@ module _ (mark : ℕ) where
   pub after_string-sound : is_quote mark ≡ true → (text rest : List ℕ) → after_string mark text ≡ Some rest → (front : List ℕ) × IsQuoted (mark ∷ front) × (text ≡ front ++ rest)
   unfolding after_string
   after_string-sound quote text rest e =
-      let found = closed (IsStringPiece mark) (after_string_piece mark) mark string_piece-sound string_piece-long text rest e in
-      (
+      let found = closed (IsStringPiece mark) (after_string_piece mark) mark string_piece-sound string_piece-long text rest e in (
         found.body ++ mark ∷ [],
         (found.values, record { mark = mark; body = found.body; quote = quote; pieces = found.star; spelled = refl }),
         found.split ∙ sym (append_assoc found.body (mark ∷ []) rest),

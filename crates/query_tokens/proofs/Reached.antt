@@ -1,6 +1,5 @@
 -- What it means that the front of a text was read, and that no less of it was read than a rule allows.
-use Rattle.std.proofs.Common.{◌≡◌, ℕ, ◌<◌, ◌≤◌, Bool, true, false, if◌then◌else◌, ◌⊎◌, inl, inr, Option, Some, None, List, [], ◌∷◌, ◌++◌, length, refl, ap, ◌∙◌, sym, subst, arith}
-use Rattle.std.specs.Option.{option_map}
+use Rattle.std.proofs.Common.{◌≡◌, ℕ, ◌<◌, ◌≤◌, Bool, true, false, if◌then◌else◌, Option, Some, List, ◌++◌, length, refl, subst, arith}
 use Rattle.query_tokens.specs.declared.token.TokenKind.{TokenKind}
 
 -- what was read is of a rule for its kind

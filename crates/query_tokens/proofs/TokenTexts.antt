@@ -1,13 +1,12 @@
 -- A token that is read is of its rule, and no less is read than any rule allows.
-use Rattle.std.proofs.Common.{◌≡◌, ℕ, ◌<◌, ◌≤◌, Bool, true, false, ◌==◌, ◌||◌, if◌then◌else◌, ◌⊎◌, inl, inr, Option, Some, None, List, [], ◌∷◌, ◌++◌, length, refl, ap, ◌∙◌, sym, subst, arith, append_assoc, length-append}
-use Rattle.std.specs.Prelude.{option_and_then}
+use Rattle.std.proofs.Common.{◌≡◌, ℕ, true, false, ◌==◌, if◌then◌else◌, ◌⊎◌, inl, inr, Option, Some, None, List, [], ◌∷◌, ◌++◌, length, refl, ap, ◌∙◌, sym, subst, arith, append_assoc, length-append}
 use Rattle.std.specs.List.{list_all}
-use Rattle.std.specs.Option.{option_map, option_map_or}
+use Rattle.std.specs.Option.{option_map_or}
 use Rattle.std.proofs.lemmas.Bool.{eqb-true, eq-eqb, and_parts, or_cases}
 use Rattle.std.proofs.lemmas.Bool.Decides.{nat_tests}
 use Rattle.std.proofs.lemmas.Option.{cond_some, option_and_then_some, same_Some}
-use Rattle.bm_term.specs.Classes.{is_letter, is_alphanumeric, is_digit, is_pn_chars_base, is_sparql_pn_chars_u, is_sparql_label_first, is_sparql_pn_chars}
-use Rattle.bm_term.specs.Names.{IsDottedName, IsLanguageTag, after_dotted_name, after_language_tag}
+use Rattle.bm_term.specs.Classes.{is_letter, is_alphanumeric, is_digit, is_pn_chars_base, is_sparql_label_first, is_sparql_pn_chars}
+use Rattle.bm_term.specs.Names.{after_dotted_name, after_language_tag}
 use Rattle.bm_term.specs.Text.{after_char, after_run, IsRun}
 use Rattle.bm_term.specs.Repetition.{Star}
 use Rattle.bm_term.proofs.TextLemmas.{after_run-split, after_run-append, length-after_run, after_char-some}
@@ -17,14 +16,14 @@ use Rattle.query_tokens.specs.declared.token.TokenKind.{TokenKind}
 use Rattle.query_tokens.specs.declared.token.TokenKind.TheVariants.{Iri, Prefix, Prefixed, Variable, Quoted, Tag, Integer, Decimal, Double, Word, Blank, Sign, Quotes, Bad}
 use Rattle.query_tokens.specs.Marks.{is_quote, is_number_sign}
 use Rattle.query_tokens.specs.Iriref.{IsIriref, after_iri}
-use Rattle.query_tokens.specs.PrefixedNames.{IsPrefixName, IsPrefix, IsPrefixed, read_local, read_name}
+use Rattle.query_tokens.specs.PrefixedNames.{IsPrefix, IsPrefixed, read_local, read_name}
 use Rattle.query_tokens.specs.Variables.{is_variable_mark, is_variable_inner, IsVariableName, IsVariable, after_variable_name}
-use Rattle.query_tokens.specs.Strings.{IsStringPiece, SpellsString, IsQuoted, IsThreeQuotes, after_string}
+use Rattle.query_tokens.specs.Strings.{IsStringPiece, IsQuoted, IsThreeQuotes, after_string}
 use Rattle.query_tokens.specs.Numbers.{IsSigned, IsDigits, IsFraction, IsScientific, read_fraction, read_number}
 use Rattle.query_tokens.specs.Signs.{is_sign, IsSign}
 use Rattle.query_tokens.specs.Token.{IsTag, IsBlankLabel, IsToken}
 use Rattle.query_tokens.specs.Scanning.{Read, as_kind, or_sign, after_two_more, read_quoted, after_blank_label, after_circumflex, read_sign, read_marked, read_token}
-use Rattle.query_tokens.proofs.Reached.{Takes, Reached, reached_as, reached_past, by_test, is_other}
+use Rattle.query_tokens.proofs.Reached.{Takes, Reached, reached_as, reached_past, by_test}
 use Rattle.query_tokens.proofs.Iris.{after_iri-sound, after_iri-again}
 use Rattle.query_tokens.proofs.QuotedStrings.{after_string-sound, after_string-again, body_begins}
 use Rattle.query_tokens.proofs.NumberTexts.{IsUnsigned, read_fraction-takes, read_number-takes, read_number-reaches, length-unsigned, read_fraction-shorter}
@@ -412,11 +411,11 @@ signed-reaches kind sign text more mark is =
     let reached = read_number-reaches kind text more is in
     elim (or_cases _ _ mark) [
       | inl e ↦ rw (eqb-true sign 43 e) record {
-          found = reached.found;
-          read_is = read_token-plus (text ++ more) ∙ ap (λ r. or_sign r (text ++ more)) reached.read_is;
-          least = reached.least;
-          same = reached.same;
-        }
+        found = reached.found;
+        read_is = read_token-plus (text ++ more) ∙ ap (λ r. or_sign r (text ++ more)) reached.read_is;
+        least = reached.least;
+        same = reached.same;
+      }
       | inr e ↦ rw (eqb-true sign 45 e, read_token-hyphen (text ++ more)) reached
     ]
 

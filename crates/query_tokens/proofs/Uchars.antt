@@ -1,5 +1,5 @@
 -- Characters by their numbers: what is read is such an escape, and each is read.
-use Rattle.std.proofs.Common.{◌≡◌, ℕ, ◌+◌, ◌*◌, ◌<◌, Bool, true, false, ◌==◌, if◌then◌else◌, ◌⊎◌, inl, inr, Option, Some, None, List, [], ◌∷◌, ◌++◌, length, refl, ap, ◌∙◌, sym, subst, arith}
+use Rattle.std.proofs.Common.{◌≡◌, ℕ, ◌+◌, ◌*◌, true, false, ◌==◌, if◌then◌else◌, inl, inr, Some, None, List, [], ◌∷◌, ◌++◌, length, refl, ap, ◌∙◌, sym, subst, arith}
 use Rattle.std.specs.List.{list_all}
 use Rattle.std.proofs.lemmas.Bool.{and_parts, eqb-true}
 use Rattle.std.proofs.lemmas.List.{nil_from_length}
@@ -29,8 +29,7 @@ read_two_digits-reads text found e =
     option_and_then_some (λ low. Some (16 * high.0 + low.0, low.1)) (read_hex_digit high.1) found follows (λ low second same.
     let (a, a_hex, a_split, a_value) = read_hex_digit-reads text high first in
     let (b, b_hex, b_split, b_value) = read_hex_digit-reads high.1 low second in
-    let both = same_Some (16 * high.0 + low.0, low.1) found same in
-    (
+    let both = same_Some (16 * high.0 + low.0, low.1) found same in (
       a,
       b,
       a_hex,
@@ -54,8 +53,7 @@ read_four_digits-reads text found e =
     option_and_then_some (λ low. Some (256 * high.0 + low.0, low.1)) (read_two_digits high.1) found follows (λ low second same.
     let (a, b, a_hex, b_hex, a_split, a_value) = read_two_digits-reads text high first in
     let (c, d, c_hex, d_hex, c_split, c_value) = read_two_digits-reads high.1 low second in
-    let both = same_Some (256 * high.0 + low.0, low.1) found same in
-    (
+    let both = same_Some (256 * high.0 + low.0, low.1) found same in (
       a,
       b,
       c,

@@ -1,5 +1,5 @@
 -- How a token is read from the front of a text: its kind, and what follows it. The laws that tie this to tokens are in proofs/.
-use Rattle.std.specs.Prelude.{ℕ, ◌==◌, if◌then◌else◌, Option, Some, None, List, [], ◌∷◌}
+use Rattle.std.specs.Prelude.{unwrap_or, ℕ, ◌==◌, if◌then◌else◌, Option, Some, None, List, [], ◌∷◌}
 use Rattle.std.specs.Option.{option_map, option_map_or}
 use Rattle.bm_term.specs.Marks.{full_stop, colon, less_than, at_sign, circumflex, low_line, hyphen}
 use Rattle.bm_term.specs.Classes.{is_letter, is_alphanumeric, is_digit, is_pn_chars_base, is_sparql_label_first, is_sparql_pn_chars}
@@ -7,7 +7,7 @@ use Rattle.bm_term.specs.Names.{after_dotted_name, after_language_tag}
 use Rattle.bm_term.specs.Text.{after_char}
 use Rattle.bm_term.specs.Reading.{◌>>=◌}
 use Rattle.query_tokens.specs.declared.token.TokenKind.{TokenKind}
-use Rattle.query_tokens.specs.declared.token.TokenKind.TheVariants.{Iri, Variable, Quoted, Tag, Blank, Sign, Quotes}
+use Rattle.query_tokens.specs.declared.token.TokenKind.TheVariants.{Iri, Variable, Quoted, Tag, Blank, Sign, Quotes, Bad}
 use Rattle.query_tokens.specs.Marks.{plus_sign, question_mark, dollar_sign, is_quote}
 use Rattle.query_tokens.specs.Iriref.{after_iri}
 use Rattle.query_tokens.specs.PrefixedNames.{read_local, read_name}
@@ -69,3 +69,7 @@ read_token [] = None
 read_token (c ∷ cs) =
     if is_pn_chars_base c then read_name (c ∷ cs)
     else (if is_digit c then read_number (c ∷ cs) else read_marked c cs)
+
+-- a token, or all of the text as bad
+unfoldable pub read_or_bad : List ℕ → Read
+read_or_bad text = unwrap_or (read_token text) (Bad, [])

@@ -19,21 +19,27 @@ pub record IsBadRest (kind : TokenKind) (text after : List ℕ) : Type 0 where
   pub some_text : 0 < length text
   pub last : after ≡ []
 
--- A text that begins at this byte of the source begins with the token, behind the longest blanks; and what follows it.
-pub record IsNext (at : ℕ) (whole : List ℕ) (token : Lexeme) (after : List ℕ) : Type 0 where
-  pub blanks : List ℕ
+-- The text begins with this token, and this follows it. The text begins at this byte of the source.
+pub record BeginsWithToken (at : ℕ) (whole : List ℕ) (token : Lexeme) (after : List ℕ) : Type 0 where
   pub text : List ℕ
-  pub split : whole ≡ blanks ++ (text ++ after)
-  pub dropped : IsLongest AreBlanks blanks (text ++ after)
+  pub split : whole ≡ text ++ after
   pub token_is : IsLongestToken token.kind text after ⊎ IsBadRest token.kind text after
   pub bytes : token.text ≡ encode_utf8_all text
-  pub place : token.at ≡ at + length (encode_utf8_all blanks)
+  pub place : token.at ≡ at
+
+-- the same behind the longest blanks that the text begins with
+pub record IsNextToken (at : ℕ) (whole : List ℕ) (token : Lexeme) (after : List ℕ) : Type 0 where
+  pub blanks : List ℕ
+  pub rest : List ℕ
+  pub split : whole ≡ blanks ++ rest
+  pub dropped : IsLongest AreBlanks blanks rest
+  pub token_stands : BeginsWithToken (at + length (encode_utf8_all blanks)) rest token after
 
 -- these are the tokens of the text that begins at this byte of the source
 abbrev pub AreTokensFrom : ℕ → List ℕ → List Lexeme → Type 0
 AreTokensFrom at whole [] = AreBlanks whole
 AreTokensFrom at whole (token ∷ tokens) =
-    (after : List ℕ) × IsNext at whole token after × AreTokensFrom (token.at + length token.text) after tokens
+    (after : List ℕ) × IsNextToken at whole token after × AreTokensFrom (token.at + length token.text) after tokens
 
 -- these are the tokens of the source
 abbrev pub AreTokens : List ℕ → List Lexeme → Type 0

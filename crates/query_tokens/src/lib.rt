@@ -6,6 +6,7 @@
 mod blanks;
 mod class_types;
 mod iriref;
+mod laws;
 mod numbers;
 mod prefixed_names;
 mod scanning;
@@ -16,4 +17,7 @@ mod token_list;
 mod uchar;
 mod variables;
 
+pub use laws::{a_source_has_one_list_of_tokens, a_text_is_of_one_kind, each_source_has_tokens};
+pub use scanning::tokens;
 pub use token::{Token, TokenKind};
+pub use token_list::TokenList;
