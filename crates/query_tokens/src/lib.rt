@@ -21,3 +21,6 @@ pub use laws::{a_source_has_one_list_of_tokens, a_text_is_of_one_kind, each_sour
 pub use scanning::tokens;
 pub use token::{Token, TokenKind};
 pub use token_list::TokenList;
+
+#[cfg(test)]
+mod tests;
