@@ -8,5 +8,8 @@ pub mod Reached
 pub mod NumberTexts
 pub mod PrefixTexts
 pub mod TokenTexts
+pub mod TokenReaches
+pub mod PrefixBounds
 pub mod TokenLists
 pub mod OneList
+pub mod Examples

@@ -8,8 +8,9 @@ use Rattle.query_tokens.specs.Token.{IsToken, IsOfSomeRule, Lexeme}
 use Rattle.query_tokens.specs.Blanks.{AreBlanks, after_blanks}
 use Rattle.query_tokens.specs.Tokens.{BeginsWithToken, IsNextToken, AreTokensFrom}
 use Rattle.query_tokens.specs.Scanning.{Read, read_or_bad}
+use Rattle.query_tokens.proofs.Walks.{goes_on}
 use Rattle.query_tokens.proofs.BlankRuns.{blanks-split}
-use Rattle.query_tokens.proofs.TokenTexts.{read_token-reaches}
+use Rattle.query_tokens.proofs.TokenReaches.{read_token-reaches}
 use Rattle.query_tokens.proofs.TokenLists.{length-token, read_or_bad-stands, blanks_longest}
 
 -- a text is of one kind: of the one that is read
@@ -19,21 +20,6 @@ one_kind kind other text is is_other =
     let second = read_token-reaches other text [] is_other in
     let same : first.found ≡ second.found = same_Some first.found second.found (sym first.read_is ∙ second.read_is) in
     sym (first.same (omega (arith, first.least))) ∙ ap (λ (found : Read). found.0) same ∙ second.same (omega (arith, second.least))
-
--- of two fronts of a text one goes on in the other
-abbrev GoesOn : List ℕ → List ℕ → List ℕ → List ℕ → Type 0
-GoesOn a x b y = (more : List ℕ) × (b ≡ a ++ more) × (x ≡ more ++ y)
-
-goes_on : (a x b y : List ℕ) → a ++ x ≡ b ++ y → GoesOn a x b y ⊎ GoesOn b y a x
-goes_on [] x b y whole = inl (b, refl, whole)
-goes_on (c ∷ cs) x [] y whole = inr (c ∷ cs, refl, sym whole)
-goes_on (c ∷ cs) x (d ∷ ds) y whole =
-    let first : c ≡ d = cc in
-    let others : cs ++ x ≡ ds ++ y = cc in
-    elim (goes_on cs x ds y others) [
-      | inl (more, b_is, x_is) ↦ inl (more, rw first (ap (λ xs. d ∷ xs) b_is), x_is)
-      | inr (more, a_is, y_is) ↦ inr (more, rw first (ap (λ xs. d ∷ xs) a_is), y_is)
-    ]
 
 -- of a text one front is the longest
 one_longest : (Rule : List ℕ → Type 0) (a x b y : List ℕ) → IsLongest Rule a x → IsLongest Rule b y → a ++ x ≡ b ++ y → (a ≡ b) × (x ≡ y)

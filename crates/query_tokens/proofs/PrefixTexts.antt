@@ -34,16 +34,16 @@ module _ (inner : ℕ → Bool) (d : ℕ) (not_inner : inner d ≡ false) (no_st
       rw (spelled, split, append_assoc middle (last ∷ []) (d ∷ rest), begins)
       (ap Some (dotted_end-stops middle last (middle ++ last ∷ d ∷ rest) rest dotted ends))
 
-no_colon : is_sparql_pn_chars 58 ≡ false
+pub no_colon : is_sparql_pn_chars 58 ≡ false
 unfolding is_sparql_pn_chars is_sparql_pn_chars_u is_pn_chars_base is_pn_chars_more
 no_colon = refl
 
 -- a prefix that has a name is read up to its colon
-after_prefix-again : (name rest : List ℕ) → IsPrefixName name → after_prefix (name ++ 58 ∷ rest) ≡ Some rest
+pub after_prefix-again : (name rest : List ℕ) → IsPrefixName name → after_prefix (name ++ 58 ∷ rest) ≡ Some rest
 unfolding after_prefix
 after_prefix-again name rest is = rw (dotted_name-stops is_sparql_pn_chars 58 no_colon refl is_pn_chars_base name rest is) refl
 
-after_prefix-sound : (text rest : List ℕ) → after_prefix text ≡ Some rest → (name : List ℕ) × IsPrefixName name × (text ≡ name ++ 58 ∷ rest)
+pub after_prefix-sound : (text rest : List ℕ) → after_prefix text ≡ Some rest → (name : List ℕ) × IsPrefixName name × (text ≡ name ++ 58 ∷ rest)
 unfolding after_prefix
 after_prefix-sound text rest e =
     option_and_then_some (after_char 58) (after_dotted_name is_pn_chars_base is_sparql_pn_chars text) rest e (λ behind named colon.

@@ -18,7 +18,8 @@ use Rattle.query_tokens.specs.Blanks.{AreBlanks, after_blanks}
 use Rattle.query_tokens.specs.Tokens.{IsLongestToken, IsBadRest, BeginsWithToken, IsNextToken, AreTokensFrom, AreTokens, IsSliceOf}
 use Rattle.query_tokens.specs.Scanning.{Read, read_token, read_or_bad}
 use Rattle.query_tokens.proofs.BlankRuns.{blanks-split, blanks_reach}
-use Rattle.query_tokens.proofs.TokenTexts.{read_token-takes, read_token-reaches}
+use Rattle.query_tokens.proofs.TokenTexts.{read_token-takes}
+use Rattle.query_tokens.proofs.TokenReaches.{read_token-reaches}
 
 -- a token has a character
 pub length-token : (kind : TokenKind) (text : List ℕ) → IsToken kind text → 0 < length text

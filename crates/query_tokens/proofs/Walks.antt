@@ -1,5 +1,5 @@
 -- Walks over pieces in a row, each of which is passed whatever follows it.
-use Rattle.std.proofs.Common.{◌≡◌, ℕ, ◌<◌, ◌≤◌, Option, Some, None, List, ◌∷◌, ◌++◌, length, refl, ap, ◌∙◌, arith, length-append}
+use Rattle.std.proofs.Common.{◌≡◌, ℕ, ◌<◌, ◌≤◌, ◌⊎◌, inl, inr, Option, Some, None, List, [], ◌∷◌, ◌++◌, length, refl, ap, ◌∙◌, sym, arith, length-append}
 use Rattle.std.proofs.lemmas.Bool.{eq-eqb}
 use Rattle.bm_term.specs.Text.{after_char}
 use Rattle.bm_term.specs.Repetition.{Star, after_pieces}
@@ -69,3 +69,18 @@ after_pieces-more step ahead text rest e = rw (after_pieces-step step ahead text
 
 pub after_pieces-none : (step : List ℕ → Option (List ℕ)) → GoesForward step → (text : List ℕ) → step text ≡ None → after_pieces step text ≡ text
 after_pieces-none step ahead text e = rw (after_pieces-step step ahead text, e) refl
+
+-- of two fronts of a text one goes on in the other
+abbrev pub GoesOn : List ℕ → List ℕ → List ℕ → List ℕ → Type 0
+GoesOn a x b y = (more : List ℕ) × (b ≡ a ++ more) × (x ≡ more ++ y)
+
+pub goes_on : (a x b y : List ℕ) → a ++ x ≡ b ++ y → GoesOn a x b y ⊎ GoesOn b y a x
+goes_on [] x b y whole = inl (b, refl, whole)
+goes_on (c ∷ cs) x [] y whole = inr (c ∷ cs, refl, sym whole)
+goes_on (c ∷ cs) x (d ∷ ds) y whole =
+    let first : c ≡ d = cc in
+    let others : cs ++ x ≡ ds ++ y = cc in
+    elim (goes_on cs x ds y others) [
+      | inl (more, b_is, x_is) ↦ inl (more, rw first (ap (λ xs. d ∷ xs) b_is), x_is)
+      | inr (more, a_is, y_is) ↦ inr (more, rw first (ap (λ xs. d ∷ xs) a_is), y_is)
+    ]

@@ -1,6 +1,7 @@
 -- PNAME_NS and PNAME_LN. SPARQL 1.1 Query, section 19.8.
-use Rattle.std.specs.Prelude.{◌≡◌, ℕ, Bool, ◌||◌, ◌==◌, ◌⊎◌, if◌then◌else◌, IsTrue, Option, Some, None, option_and_then, List, [], ◌∷◌, ◌++◌}
+use Rattle.std.specs.Prelude.{◌≡◌, ℕ, Bool, ◌||◌, ◌==◌, ◌⊎◌, if◌then◌else◌, IsTrue, Option, Some, None, option_and_then, ◌<◌, List, [], ◌∷◌, ◌++◌, length}
 use Rattle.std.specs.Option.{option_map, option_map_or}
+use Rattle.std.specs.Str.{encode_utf8_all}
 use Rattle.bm_term.specs.Marks.{full_stop, colon, backslash}
 use Rattle.bm_term.specs.Classes.{is_pn_chars_base, is_sparql_pn_chars_u, is_sparql_pn_chars, is_digit, is_hex, is_letter}
 use Rattle.bm_term.specs.Names.{is_dotted, IsDottedName, after_dotted_name}
@@ -96,6 +97,15 @@ read_local text = option_map_or (λ rest. (Prefixed, rest)) (after_local text) (
 -- a prefix that has a name
 unfoldable pub after_prefix : List ℕ → Option (List ℕ)
 after_prefix text = option_and_then (after_char colon) (after_dotted_name is_pn_chars_base is_sparql_pn_chars text)
+
+-- a character of a name, or '.'
+abbrev pub is_prefix_char : ℕ → Bool
+is_prefix_char c = is_dotted is_sparql_pn_chars c
+
+-- no prefix that has a name begins in the text where more bytes than these are left
+abbrev pub HasNoPrefixBefore : ℕ → List ℕ → Type 0
+HasNoPrefixBefore left text =
+    (front behind : List ℕ) → text ≡ front ++ behind → left < length (encode_utf8_all behind) → after_prefix behind ≡ None
 
 -- a prefixed name, a prefix or a word
 unfoldable pub read_name : List ℕ → Option (TokenKind × List ℕ)

@@ -71,6 +71,18 @@ impl CharClass for FullStop {
     }
 }
 
+/// What a prefix's name may have inside.
+#[derive(Clone, Copy)]
+pub(crate) struct PrefixChar;
+
+impl CharClass for PrefixChar {
+    ghost members = { names.is_prefix_char };
+
+    fn has(self, c: char) -> bool {
+        is_sparql_pn_chars(c as u32) || c == '.'
+    }
+}
+
 /// What a local name may begin with, besides `PLX`.
 #[derive(Clone, Copy)]
 pub(crate) struct LocalFirst;

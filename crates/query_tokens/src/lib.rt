@@ -11,6 +11,7 @@ mod numbers;
 mod prefixed_names;
 mod scanning;
 mod signs;
+mod source;
 mod strings;
 mod token;
 mod token_list;
@@ -18,7 +19,7 @@ mod uchar;
 mod variables;
 
 pub use laws::{a_source_has_one_list_of_tokens, a_text_is_of_one_kind, each_source_has_tokens};
-pub use scanning::tokens;
+pub use source::tokens;
 pub use token::{Token, TokenKind};
 pub use token_list::TokenList;
 

@@ -3,24 +3,52 @@ ghost use Rattle.std.specs.Prelude.{◌≡◌, ℕ, Bool, IfSome};
 ghost use Rattle.std.specs.Option.{option_map};
 ghost use Rattle.std.specs.Str.{chars, IsUtf8};
 ghost use Rattle.bm_term.specs.Repetition.{after_pieces};
-ghost use Rattle.query_tokens.specs.PrefixedNames.{after_one, after_two_digits, after_local_piece, after_dotted_piece, after_local, read_local, after_prefix, read_name};
+ghost use Rattle.query_tokens.specs.PrefixedNames.{after_one, after_two_digits, after_local_piece, after_dotted_piece, after_local, read_local, after_prefix, read_name, HasNoPrefixBefore};
+ghost use Rattle.query_tokens.specs.Scanning.{read_or_bad};
 
-use crate::class_types::{FullStop, Hex, LocalEscape, LocalFirst, LocalInner};
+use crate::class_types::{FullStop, Hex, LocalEscape, LocalFirst, LocalInner, PrefixChar};
 use crate::token::TokenKind;
 use bm_term::{
     CharClass, Letter, PnCharsBase, SparqlPnChars, after_char, after_dotted_name, after_run,
     after_some, split_char,
 };
 
-// A prefixed name, a prefix that has a name, or a word.
+// A prefixed name, a prefix that has a name, or a word. No prefix begins where more than `unprefixed`
+// bytes are left.
 #[tactic(auto, unfolding(crate::specs::PrefixedNames::read_name))]
-pub(crate) fn read_name(text: &str) -> Option<(TokenKind, &str)>
+pub(crate) fn read_name(text: &str, unprefixed: usize) -> Option<(TokenKind, &str)>
+    requires { HasNoPrefixBefore unprefixed (chars text.now) }
     ensures chars { option_map (λ p. (p.0, chars p.1.now)) result ≡ read_name (chars text.now) }
     ensures utf8 { IfSome result (λ p. IsUtf8 p.1.now) }
 {
-    match after_prefix(text) {
+    match find_prefix(text, unprefixed) {
         Some(rest) => Some(read_local(rest)),
         None => Some((TokenKind::Word, after_some(text, Letter)?)),
+    }
+}
+
+// The text after a prefix that has a name; it is not looked for where it is known that there is none.
+fn find_prefix(text: &str, unprefixed: usize) -> Option<&str>
+    requires { HasNoPrefixBefore unprefixed (chars text.now) }
+    ensures chars { option_map (λ rest. chars rest.now) result ≡ after_prefix (chars text.now) }
+    ensures utf8 { IfSome result (λ rest. IsUtf8 rest.now) }
+{
+    if text.len() > unprefixed {
+        return None;
+    }
+    after_prefix(text)
+}
+
+// Where no prefix begins in a text that begins with a token of this kind: not within the characters of
+// names around a word. So each of them is looked at once for all words between them.
+pub(crate) fn unprefixed_from(kind: TokenKind, text: &str, unprefixed: usize) -> usize
+    requires known { HasNoPrefixBefore unprefixed (chars text.now) }
+    requires kind { kind ≡ (read_or_bad (chars text.now)).0 }
+    ensures { HasNoPrefixBefore result (chars text.now) }
+{
+    match kind {
+        TokenKind::Word if text.len() <= unprefixed => after_run(text, PrefixChar).len(),
+        _ => unprefixed,
     }
 }
 

@@ -2,7 +2,7 @@ use Rattle.std.proofs.Common.{List, ℕ, map, subst, sym}
 use Rattle.query_tokens.specs.Token.{shown}
 use Rattle.query_tokens.specs.Tokens.{AreTokens}
 use Rattle.query_tokens.proofs.TokenLists.{slices_of}
-use Rattle.query_tokens.proofs.scanning.tokens.Goals as goal
+use Rattle.query_tokens.proofs.source.tokens.Goals as goal
 
 pub returns-clause-slices : goal.returns-clause-slices
 returns-clause-slices c =
