@@ -1,0 +1,1 @@
+-- The second layer: what a query expects behind its tokens, read one by one.

@@ -1,0 +1,5 @@
+pub mod Expecting
+pub mod Grammar
+pub mod Roles
+pub mod Terminals
+pub mod Tree
