@@ -5,6 +5,6 @@ mod expect;
 mod syntax;
 mod terminal;
 
-pub use expect::{Expect, State, Step};
+pub use expect::{Expect, State, Step, next};
 pub use syntax::Role;
 pub use terminal::Terminal;
