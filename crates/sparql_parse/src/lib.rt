@@ -7,4 +7,4 @@ mod terminal;
 
 pub use expect::{Expect, State, Step, next};
 pub use syntax::Role;
-pub use terminal::Terminal;
+pub use terminal::{Terminal, terminal_of};
