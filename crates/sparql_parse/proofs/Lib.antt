@@ -1,1 +1,4 @@
+mod Carrying
 mod Examples
+mod Remainders
+mod Weakenings

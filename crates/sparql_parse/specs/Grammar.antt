@@ -101,11 +101,15 @@ AreProperties (property ∷ properties) = IsProperty property ▸ AreMorePropert
 abbrev pub IsSame : Same → Spelling
 IsSame same = IsNode roles.Subject same.subject ▸ AreProperties same.properties
 
+-- ('.' block?)?
+abbrev pub AreMoreSames : List Same → Spelling
+AreMoreSames [] = Maybe (Keyword terminals.Stop)
+AreMoreSames (same ∷ block) = Keyword terminals.Stop ▸ IsSame same ▸ AreMoreSames block
+
 -- block?, where block ::= same ('.' block?)?
 abbrev pub IsBlock : List Same → Spelling
 IsBlock [] = Nothing
-IsBlock (same ∷ []) = IsSame same ▸ Maybe (Keyword terminals.Stop)
-IsBlock (same ∷ next ∷ block) = IsSame same ▸ Keyword terminals.Stop ▸ IsBlock (next ∷ block)
+IsBlock (same ∷ block) = IsSame same ▸ AreMoreSames block
 
 -- '{' .. '}'
 abbrev pub InBraces : Spelling → Spelling
@@ -123,11 +127,15 @@ AreParts (NestedPart block parts next rest) =
 abbrev pub IsGroup : Group → Spelling
 IsGroup group = InBraces (IsBlock group.block ▸ AreParts group.parts)
 
+-- variable*
+abbrev pub AreMoreVariables : List Lexeme → Spelling
+AreMoreVariables [] = Nothing
+AreMoreVariables (token ∷ tokens) = Token terminals.Variable roles.Column token ▸ AreMoreVariables tokens
+
 -- variable+
 abbrev pub AreVariables : List Lexeme → Spelling
 AreVariables [] = Never
-AreVariables (token ∷ []) = Token terminals.Variable roles.Column token
-AreVariables (token ∷ next ∷ tokens) = Token terminals.Variable roles.Column token ▸ AreVariables (next ∷ tokens)
+AreVariables (token ∷ tokens) = Token terminals.Variable roles.Column token ▸ AreMoreVariables tokens
 
 -- variable+ | '*'
 abbrev pub AreColumns : Columns → Spelling
