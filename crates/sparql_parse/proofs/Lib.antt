@@ -1,4 +1,5 @@
 mod Carrying
 mod Examples
+mod Productions
 mod Remainders
 mod Weakenings
