@@ -1,5 +1,6 @@
 mod Carrying
 mod Examples
+mod Following
 mod Productions
 mod Remainders
 mod Weakenings

@@ -8,7 +8,7 @@ use Rattle.sparql_parse.specs.Roles.{Labelled}
 use Rattle.sparql_parse.specs.Tree.{Node, VariableNode, IriNode, StringNode, TaggedNode, TypedNode, NumberNode, BooleanNode, TypeNode, Property, Same, Parts, NoParts, OptionalPart, NestedPart, Group, Declaration, Columns, AllColumns, Variables, Syntax}
 use Rattle.sparql_parse.specs.Grammar.{Spelling, ◌▸◌, Many, none, more, Maybe, Keyword, IsIri, IsNode, IsVerb, AreMoreObjects, AreObjects, IsProperty, AreMoreProperties, AreProperties, IsSame, AreMoreSames, IsBlock, InBraces, AreParts, IsGroup, AreMoreVariables, AreVariables, AreColumns, IsDistinct, IsDeclaration, IsPrologue, SpellsQuery, IsQuery}
 use Rattle.sparql_parse.specs.Expecting.{prologue_step, declared_prefix_step, namespace_step, projection_step, columns_step, more_columns_step, where_step, group_step, block_step, element_step, after_element_step, verb_step, object_step, datatype_step, after_subject_string_step, after_objects_step, after_object_step, after_object_string_step, after_semicolon_step, outside, start}
-use Rattle.sparql_parse.proofs.Remainders.{Suffix, NoSuffix, TagSuffix, TypeSuffix, Head, head_of, Remainder, left, group_of, property_of, same_of, declaration_of, nothing_left, remainder_of, tree_left}
+use Rattle.sparql_parse.proofs.Remainders.{Suffix, NoSuffix, TagSuffix, TypeSuffix, head_of, no_head, Remainder, left, group_of, property_of, same_of, declaration_of, nothing_left, remainder_of, tree_left}
 use Rattle.sparql_parse.proofs.Weakenings.{columns-projection, group-where, where-more_columns, group-element, element-block, block-after_element, verb-after_string, element-after_objects, after_objects-after_object, after_object-after_string, after_objects-after_semicolon, verb-after_semicolon}
 use Rattle.sparql_parse.proofs.Carrying.{Reads, ended, On, At, Carries, c-then, c-or, c-before, c-behind, c-nothing, c-never, c-maybe, weaken, at_state, c-token-at, c-token, c-some, c-keyword}
 
@@ -153,47 +153,47 @@ block-carries n [] q = c-nothing (weaken (inside NoSuffix [] [] [] q) (element-b
 block-carries n (same ∷ block) q = c-then (same-carries n same block q) (more_sames-carry n block q)
 
 -- what is left at the end of a group's block: its parts
-abbrev at_parts : Parts → List Group → Head → Remainder
-at_parts parts outer head = left NoSuffix [] [] [] parts outer head
+abbrev at_parts : Parts → List Group → Remainder
+at_parts parts outer = left NoSuffix [] [] [] parts outer no_head
 
-abbrev at_block : List Same → Parts → List Group → Head → Remainder
-at_block block parts outer head = left NoSuffix [] [] block parts outer head
+abbrev at_block : List Same → Parts → List Group → Remainder
+at_block block parts outer = left NoSuffix [] [] block parts outer no_head
 
-braces-carry : (n : ℕ) (block : List Same) (parts : Parts) (next : List Same) (rest : Parts) (outer : List Group) (head : Head) →
-    Carries (AreParts parts) (On (element_step (suc n)) (at_parts parts (group_of next rest ∷ outer) head)) (On (element_step (suc n)) (at_parts NoParts (group_of next rest ∷ outer) head)) →
-    Carries (InBraces (IsBlock block ▸ AreParts parts)) (On (group_step n) (at_parts (NestedPart block parts next rest) outer head)) (At (outside n) (at_block next rest outer head))
-braces-carry n block parts next rest outer head inner =
-    c-then (c-some terminals.Open roles.Open (λ token. c-token (group_step n) terminals.Open roles.Open token expects.Block (suc n) (at_block block parts (group_of next rest ∷ outer) head) refl))
-    (c-then (c-then (block-carries (suc n) block (at_parts parts (group_of next rest ∷ outer) head)) inner)
-    (c-some terminals.Close roles.Close (λ token. c-token-at (element_step (suc n)) terminals.Close roles.Close token (outside n) (at_block next rest outer head) refl)))
+braces-carry : (n : ℕ) (block : List Same) (parts : Parts) (next : List Same) (rest : Parts) (outer : List Group) →
+    Carries (AreParts parts) (On (element_step (suc n)) (at_parts parts (group_of next rest ∷ outer))) (On (element_step (suc n)) (at_parts NoParts (group_of next rest ∷ outer))) →
+    Carries (InBraces (IsBlock block ▸ AreParts parts)) (On (group_step n) (at_parts (NestedPart block parts next rest) outer)) (At (outside n) (at_block next rest outer))
+braces-carry n block parts next rest outer inner =
+    c-then (c-some terminals.Open roles.Open (λ token. c-token (group_step n) terminals.Open roles.Open token expects.Block (suc n) (at_block block parts (group_of next rest ∷ outer)) refl))
+    (c-then (c-then (block-carries (suc n) block (at_parts parts (group_of next rest ∷ outer))) inner)
+    (c-some terminals.Close roles.Close (λ token. c-token-at (element_step (suc n)) terminals.Close roles.Close token (outside n) (at_block next rest outer) refl)))
 
-parts-carry : (n : ℕ) (parts : Parts) (outer : List Group) (head : Head) →
-    Carries (AreParts parts) (On (element_step (suc n)) (at_parts parts outer head)) (On (element_step (suc n)) (at_parts NoParts outer head))
-parts-carry n NoParts outer head = c-nothing (λ ls on. on)
-parts-carry n (OptionalPart block parts next rest) outer head =
-    c-then (c-some terminals.OptionalWord roles.Optional (λ token. c-token (element_step (suc n)) terminals.OptionalWord roles.Optional token expects.Group (suc n) (at_parts (NestedPart block parts next rest) outer head) refl))
-    (c-then (c-behind (at_state expects.AfterElement (suc n) (at_block next rest outer head))
-        (braces-carry (suc n) block parts next rest outer head (parts-carry (suc n) parts (group_of next rest ∷ outer) head)))
-    (c-then (c-maybe (c-keyword (after_element_step (suc n)) terminals.Stop expects.Block (suc n) (at_block next rest outer head) refl)
-        (weaken (at_block next rest outer head) (block-after_element (suc n))))
-    (c-then (block-carries (suc n) next (at_parts rest outer head)) (parts-carry n rest outer head))))
-parts-carry n (NestedPart block parts next rest) outer head =
-    c-then (c-before (weaken (at_parts (NestedPart block parts next rest) outer head) (group-element (suc n)))
-        (c-behind (at_state expects.AfterElement (suc n) (at_block next rest outer head))
-        (braces-carry (suc n) block parts next rest outer head (parts-carry (suc n) parts (group_of next rest ∷ outer) head))))
-    (c-then (c-maybe (c-keyword (after_element_step (suc n)) terminals.Stop expects.Block (suc n) (at_block next rest outer head) refl)
-        (weaken (at_block next rest outer head) (block-after_element (suc n))))
-    (c-then (block-carries (suc n) next (at_parts rest outer head)) (parts-carry n rest outer head)))
+parts-carry : (n : ℕ) (parts : Parts) (outer : List Group) →
+    Carries (AreParts parts) (On (element_step (suc n)) (at_parts parts outer)) (On (element_step (suc n)) (at_parts NoParts outer))
+parts-carry n NoParts outer = c-nothing (λ ls on. on)
+parts-carry n (OptionalPart block parts next rest) outer =
+    c-then (c-some terminals.OptionalWord roles.Optional (λ token. c-token (element_step (suc n)) terminals.OptionalWord roles.Optional token expects.Group (suc n) (at_parts (NestedPart block parts next rest) outer) refl))
+    (c-then (c-behind (at_state expects.AfterElement (suc n) (at_block next rest outer))
+        (braces-carry (suc n) block parts next rest outer (parts-carry (suc n) parts (group_of next rest ∷ outer))))
+    (c-then (c-maybe (c-keyword (after_element_step (suc n)) terminals.Stop expects.Block (suc n) (at_block next rest outer) refl)
+        (weaken (at_block next rest outer) (block-after_element (suc n))))
+    (c-then (block-carries (suc n) next (at_parts rest outer)) (parts-carry n rest outer))))
+parts-carry n (NestedPart block parts next rest) outer =
+    c-then (c-before (weaken (at_parts (NestedPart block parts next rest) outer) (group-element (suc n)))
+        (c-behind (at_state expects.AfterElement (suc n) (at_block next rest outer))
+        (braces-carry (suc n) block parts next rest outer (parts-carry (suc n) parts (group_of next rest ∷ outer)))))
+    (c-then (c-maybe (c-keyword (after_element_step (suc n)) terminals.Stop expects.Block (suc n) (at_block next rest outer) refl)
+        (weaken (at_block next rest outer) (block-after_element (suc n))))
+    (c-then (block-carries (suc n) next (at_parts rest outer)) (parts-carry n rest outer)))
 
 -- what is left before the group of a query, whose head is left as told
 abbrev at_head : Group → List Declaration → Bool → Columns → Remainder
 at_head group declarations distinct columns =
-    at_parts (NestedPart group.block group.parts [] NoParts) [] (head_of declarations distinct columns)
+    left NoSuffix [] [] [] (NestedPart group.block group.parts [] NoParts) [] (head_of declarations distinct columns)
 
 group-carries : (group : Group) → Carries (IsGroup group) (On (group_step 0) (at_head group [] false (Variables []))) (At ended nothing_left)
 group-carries group =
-    braces-carry 0 group.block group.parts [] NoParts [] (head_of [] false (Variables []))
-    (parts-carry 0 group.parts (group_of [] NoParts ∷ []) (head_of [] false (Variables [])))
+    braces-carry 0 group.block group.parts [] NoParts []
+    (parts-carry 0 group.parts (group_of [] NoParts ∷ []))
 
 more_variables-carry : (group : Group) (tokens : List Lexeme) →
     Carries (AreMoreVariables tokens) (On (more_columns_step 0) (at_head group [] false (Variables tokens))) (On (where_step 0) (at_head group [] false (Variables [])))

@@ -52,9 +52,13 @@ declaration_of prefix iri = record { prefix = prefix; iri = iri }
 abbrev pub head_of : List Declaration → Bool → Columns → Head
 head_of declarations distinct columns = record { declarations = declarations; distinct = distinct; columns = columns }
 
+-- nothing is left of the head
+abbrev pub no_head : Head
+no_head = head_of [] false (Variables [])
+
 -- nothing is left
 abbrev pub nothing_left : Remainder
-nothing_left = left NoSuffix [] [] [] NoParts [] (head_of [] false (Variables []))
+nothing_left = left NoSuffix [] [] [] NoParts [] no_head
 
 abbrev pub string_node : Lexeme → Suffix → Node
 string_node token NoSuffix = StringNode token
@@ -72,10 +76,17 @@ node_of terminals.Number token tail = NumberNode token
 node_of terminals.Boolean token tail = BooleanNode token
 node_of _ token tail = TypeNode token
 
--- the group that begins here, the elements behind it, and the groups round it
+-- the group that begins here, with what follows it in the group round it
+abbrev pub nested_part : Remainder → List Group → Parts
+nested_part r [] = NestedPart r.block r.parts [] NoParts
+nested_part r (group ∷ outer) = NestedPart r.block r.parts group.block group.parts
+
+abbrev pub but_first : List Group → List Group
+but_first [] = []
+but_first (group ∷ outer) = outer
+
 abbrev pub open_group : Remainder → List Group → Remainder
-open_group r [] = left NoSuffix [] [] [] (NestedPart r.block r.parts [] NoParts) [] r.head
-open_group r (group ∷ outer) = left NoSuffix [] [] [] (NestedPart r.block r.parts group.block group.parts) outer r.head
+open_group r outer = left NoSuffix [] [] [] (nested_part r outer) (but_first outer) no_head
 
 abbrev pub as_optional : Parts → Parts
 as_optional NoParts = NoParts
@@ -95,6 +106,8 @@ abbrev pub grow_keyword : Terminal → Remainder → Remainder
 grow_keyword terminals.Comma r = left NoSuffix r.objects r.properties r.block r.parts r.outer r.head
 grow_keyword terminals.Semicolon r = left NoSuffix [] r.properties r.block r.parts r.outer r.head
 grow_keyword terminals.Stop r = left NoSuffix [] [] r.block r.parts r.outer r.head
+grow_keyword terminals.SelectWord r = left NoSuffix [] [] [] r.parts r.outer (head_of [] r.head.distinct r.head.columns)
+grow_keyword terminals.WhereWord r = left NoSuffix [] [] [] r.parts r.outer no_head
 grow_keyword _ r = r
 
 -- what is left before a token, from what is left behind it
@@ -102,9 +115,9 @@ abbrev pub grow : Role → Terminal → Lexeme → Remainder → Remainder
 grow roles.Keyword terminal token r = grow_keyword terminal r
 grow roles.Declared terminal token r = left NoSuffix [] [] [] r.parts r.outer (record r.head { declarations = with_declaration token r.suffix r.head.declarations })
 grow roles.Namespace terminal token r = left (TypeSuffix token) [] [] [] r.parts r.outer r.head
-grow roles.Distinct terminal token r = left NoSuffix [] [] [] r.parts r.outer (record r.head { distinct = true })
-grow roles.Column terminal token r = left NoSuffix [] [] [] r.parts r.outer (record r.head { columns = with_column token r.head.columns })
-grow roles.AllColumns terminal token r = left NoSuffix [] [] [] r.parts r.outer (record r.head { columns = AllColumns })
+grow roles.Distinct terminal token r = left NoSuffix [] [] [] r.parts r.outer (head_of [] true r.head.columns)
+grow roles.Column terminal token r = left NoSuffix [] [] [] r.parts r.outer (head_of [] false (with_column token r.head.columns))
+grow roles.AllColumns terminal token r = left NoSuffix [] [] [] r.parts r.outer (head_of [] false AllColumns)
 grow roles.Optional terminal token r = left NoSuffix [] [] [] (as_optional r.parts) r.outer r.head
 grow roles.Open terminal token r = open_group r r.outer
 grow roles.Close terminal token r = left NoSuffix [] [] [] NoParts (group_of r.block r.parts ∷ r.outer) r.head
