@@ -14,7 +14,7 @@ use Rattle.sparql_parse.specs.Roles.{Labelled, with_role}
 use Rattle.sparql_parse.specs.Tree.{Node, VariableNode, IriNode, StringNode, TaggedNode, TypedNode, NumberNode, BooleanNode, TypeNode, Property, Same, Parts, NoParts, OptionalPart, NestedPart, Group, Declaration, Columns, AllColumns, Variables, Syntax}
 use Rattle.sparql_parse.specs.Grammar.{Spelling, ◌▸◌, Nothing, Never, Many, none, more, Maybe, Token, SomeToken, Keyword, IsIri, IsNode, IsVerb, AreMoreObjects, AreObjects, IsProperty, AreMoreProperties, AreProperties, IsSame, AreMoreSames, IsBlock, InBraces, AreParts, IsGroup, AreMoreVariables, AreVariables, AreColumns, IsDistinct, IsDeclaration, IsPrologue, SpellsQuery, IsQuery}
 use Rattle.sparql_parse.specs.Expecting.{prologue_step, declared_prefix_step, namespace_step, projection_step, columns_step, more_columns_step, where_step, group_step, block_step, element_step, after_element_step, verb_step, object_step, datatype_step, after_subject_string_step, after_objects_step, after_object_step, after_object_string_step, after_semicolon_step, step_at, next_step, outside, start}
-use Rattle.sparql_parse.proofs.Remainders.{open_group, as_optional, Suffix, NoSuffix, TagSuffix, TypeSuffix, Head, head_of, no_head, Remainder, left, group_of, property_of, same_of, declaration_of, string_node, nothing_left, grow, remainder_of, tree_left}
+use Rattle.sparql_parse.proofs.Remainders.{main_group, with_column, with_declaration, open_group, as_optional, Suffix, NoSuffix, TagSuffix, TypeSuffix, Head, head_of, no_head, Remainder, left, group_of, property_of, same_of, declaration_of, string_node, nothing_left, grow, remainder_of, tree_left}
 use Rattle.sparql_parse.proofs.Carrying.{Reads, ended}
 
 -- behind the '}' of a group, round which n are open: what is left of each
@@ -324,3 +324,139 @@ after_semicolon-grows n terminals.OptionalWord token is r ls = λ follows. (_, n
 after_semicolon-grows n terminals.Open token is r ls = λ follows. (_, none _, (_, inr refl, open-rest n token r ls is follows))
 after_semicolon-grows n terminals.Close token is r ls = λ follows. (_, none _, (_, inr refl, close-rest n token r ls is follows))
 after_semicolon-grows n _ token is r ls = tt
+
+-- the head of a query
+group-grows : (n : ℕ) (terminal : Terminal) (token : Lexeme) → Front terminal token → (r : Remainder) (ls : List Labelled) → Grows expects.Group n terminal token r ls
+group-grows n terminals.Open token is r ls = λ follows. open-group n token r ls is follows
+group-grows n _ token is r ls = tt
+
+where-grows : (n : ℕ) (terminal : Terminal) (token : Lexeme) → Front terminal token → (r : Remainder) (ls : List Labelled) → Grows expects.WhereOrGroup n terminal token r ls
+where-grows n terminals.WhereWord token is r ls = λ follows. (ls, inl (token, (is, refl)), follows)
+where-grows n terminals.Open token is r ls = λ follows. (_, inr refl, open-group n token r ls is follows)
+where-grows n _ token is r ls = tt
+
+more-column : (n : ℕ) (token : Lexeme) → Front terminals.Variable token → (r : Remainder) (columns : Columns) (ls : List Labelled) → (MoreColumns columns ▸ WhereOrGroup n r) ls [] →
+    (MoreColumns (with_column token columns) ▸ WhereOrGroup n r) (with_role roles.Column token ∷ ls) []
+more-column n token is r AllColumns ls (m, never, rest) = absurd never
+more-column n token is r (Variables tokens) ls (m, spelled, rest) = (m, (ls, (is, refl), spelled), rest)
+
+first-column : (n : ℕ) (token : Lexeme) → Front terminals.Variable token → (r : Remainder) (columns : Columns) (ls : List Labelled) → (MoreColumns columns ▸ WhereOrGroup n r) ls [] →
+    (AreColumns (with_column token columns) ▸ WhereOrGroup n r) (with_role roles.Column token ∷ ls) []
+first-column n token is r AllColumns ls (m, never, rest) = absurd never
+first-column n token is r (Variables tokens) ls (m, spelled, rest) = (m, (ls, (is, refl), spelled), rest)
+
+more_columns-grows : (n : ℕ) (terminal : Terminal) (token : Lexeme) → Front terminal token → (r : Remainder) (ls : List Labelled) → Grows expects.MoreColumns n terminal token r ls
+more_columns-grows n terminals.Variable token is r ls = λ follows. more-column n token is r r.head.columns ls follows
+more_columns-grows n terminals.WhereWord token is r ls = λ follows. (_, refl, where-grows n terminals.WhereWord token is r ls follows)
+more_columns-grows n terminals.Open token is r ls = λ follows. (_, refl, where-grows n terminals.Open token is r ls follows)
+more_columns-grows n _ token is r ls = tt
+
+columns-grows : (n : ℕ) (terminal : Terminal) (token : Lexeme) → Front terminal token → (r : Remainder) (ls : List Labelled) → Grows expects.Columns n terminal token r ls
+columns-grows n terminals.Variable token is r ls = λ follows. first-column n token is r r.head.columns ls follows
+columns-grows n terminals.Star token is r ls = λ follows. (ls, (token, (is, refl)), follows)
+columns-grows n _ token is r ls = tt
+
+projection-grows : (n : ℕ) (terminal : Terminal) (token : Lexeme) → Front terminal token → (r : Remainder) (ls : List Labelled) → Grows expects.Projection n terminal token r ls
+projection-grows n terminals.DistinctWord token is r ls = λ follows. (ls, (token, (is, refl)), follows)
+projection-grows n terminals.Variable token is r ls = λ follows. (_, refl, columns-grows n terminals.Variable token is r ls follows)
+projection-grows n terminals.Star token is r ls = λ follows. (_, refl, columns-grows n terminals.Star token is r ls follows)
+projection-grows n _ token is r ls = tt
+
+declare-prologue : (n : ℕ) (token : Lexeme) → Front terminals.PrefixWord token → (r : Remainder) (declarations : List Declaration) (ls : List Labelled) →
+    DeclaredPrefix n r declarations ls [] → Prologue n r declarations (with_role roles.Keyword token ∷ ls) []
+declare-prologue n token is r [] ls never = absurd never
+declare-prologue n token is r (declaration ∷ declarations) ls (m1, prefix, (m2, iri, (m3, spelled, rest))) =
+    (m3, (m2, (ls, (token, (is, refl)), (m1, prefix, iri)), spelled), rest)
+
+prologue-grows : (n : ℕ) (terminal : Terminal) (token : Lexeme) → Front terminal token → (r : Remainder) (ls : List Labelled) → Grows expects.Prologue n terminal token r ls
+prologue-grows n terminals.PrefixWord token is r ls = λ follows. declare-prologue n token is r r.head.declarations ls follows
+prologue-grows n terminals.SelectWord token is r ls = λ follows. (_, refl, (ls, (token, (is, refl)), follows))
+prologue-grows n _ token is r ls = tt
+
+declared-suffix : (n : ℕ) (token : Lexeme) → Front terminals.Prefix token → (r : Remainder) (suffix : Suffix) (ls : List Labelled) → Namespace n r suffix ls [] →
+    DeclaredPrefix n r (with_declaration token suffix r.head.declarations) (with_role roles.Declared token ∷ ls) []
+declared-suffix n token is r NoSuffix ls never = absurd never
+declared-suffix n token is r (TagSuffix tag) ls never = absurd never
+declared-suffix n token is r (TypeSuffix iri) ls follows = (ls, (is, refl), follows)
+
+declared_prefix-grows : (n : ℕ) (terminal : Terminal) (token : Lexeme) → Front terminal token → (r : Remainder) (ls : List Labelled) → Grows expects.DeclaredPrefix n terminal token r ls
+declared_prefix-grows n terminals.Prefix token is r ls = λ follows. declared-suffix n token is r r.suffix ls follows
+declared_prefix-grows n _ token is r ls = tt
+
+namespace-grows : (n : ℕ) (terminal : Terminal) (token : Lexeme) → Front terminal token → (r : Remainder) (ls : List Labelled) → Grows expects.Namespace n terminal token r ls
+namespace-grows n terminals.Iri token is r ls = λ follows. (ls, (is, refl), follows)
+namespace-grows n _ token is r ls = tt
+
+-- where no group is open, nothing is said of what follows in a group
+nothing-said : (step : Option Step) (claim : Step → Type 0) → OnStep step (λ s. claim s → Unit {0})
+nothing-said (Some step) claim = λ _. tt
+nothing-said None claim = tt
+
+-- the same in a group or where none is open
+in-group : (expect : Expect) (n : ℕ) (terminal : Terminal) (token : Lexeme) (r : Remainder) (ls : List Labelled) →
+    OnStep (step_at expect zero terminal) (λ step. Follows step.state.expect step.state.groups r ls → Unit {0})
+in-group expect n terminal token r ls = nothing-said (step_at expect zero terminal) (λ step. Follows step.state.expect step.state.groups r ls)
+
+grows : (expect : Expect) (n : ℕ) (terminal : Terminal) (token : Lexeme) → Front terminal token → (r : Remainder) (ls : List Labelled) → Grows expect n terminal token r ls
+grows expects.Prologue n terminal token is r ls = prologue-grows n terminal token is r ls
+grows expects.DeclaredPrefix n terminal token is r ls = declared_prefix-grows n terminal token is r ls
+grows expects.Namespace n terminal token is r ls = namespace-grows n terminal token is r ls
+grows expects.Projection n terminal token is r ls = projection-grows n terminal token is r ls
+grows expects.Columns n terminal token is r ls = columns-grows n terminal token is r ls
+grows expects.MoreColumns n terminal token is r ls = more_columns-grows n terminal token is r ls
+grows expects.WhereOrGroup n terminal token is r ls = where-grows n terminal token is r ls
+grows expects.Group n terminal token is r ls = group-grows n terminal token is r ls
+grows expects.Block zero terminal token is r ls = in-group expects.Block zero terminal token r ls
+grows expects.Block (suc n) terminal token is r ls = block-grows n terminal token is r ls
+grows expects.AfterElement zero terminal token is r ls = in-group expects.AfterElement zero terminal token r ls
+grows expects.AfterElement (suc n) terminal token is r ls = after_element-grows n terminal token is r ls
+grows expects.AfterSubjectString zero terminal token is r ls = in-group expects.AfterSubjectString zero terminal token r ls
+grows expects.AfterSubjectString (suc n) terminal token is r ls = after_subject_string-grows n terminal token is r ls
+grows expects.SubjectDatatype zero terminal token is r ls = in-group expects.SubjectDatatype zero terminal token r ls
+grows expects.SubjectDatatype (suc n) terminal token is r ls = subject_datatype-grows n terminal token is r ls
+grows expects.Verb zero terminal token is r ls = in-group expects.Verb zero terminal token r ls
+grows expects.Verb (suc n) terminal token is r ls = verb-grows n terminal token is r ls
+grows expects.Object zero terminal token is r ls = in-group expects.Object zero terminal token r ls
+grows expects.Object (suc n) terminal token is r ls = object-grows n terminal token is r ls
+grows expects.AfterObjectString zero terminal token is r ls = in-group expects.AfterObjectString zero terminal token r ls
+grows expects.AfterObjectString (suc n) terminal token is r ls = after_object_string-grows n terminal token is r ls
+grows expects.ObjectDatatype zero terminal token is r ls = in-group expects.ObjectDatatype zero terminal token r ls
+grows expects.ObjectDatatype (suc n) terminal token is r ls = object_datatype-grows n terminal token is r ls
+grows expects.AfterObject zero terminal token is r ls = in-group expects.AfterObject zero terminal token r ls
+grows expects.AfterObject (suc n) terminal token is r ls = after_object-grows n terminal token is r ls
+grows expects.AfterSemicolon zero terminal token is r ls = in-group expects.AfterSemicolon zero terminal token r ls
+grows expects.AfterSemicolon (suc n) terminal token is r ls = after_semicolon-grows n terminal token is r ls
+grows expects.End n terminal token is r ls = tt
+
+on-step : (o : Option Step) (claim : Step → Type 0) (step : Step) → o ≡ Some step → OnStep o claim → claim step
+on-step o claim step is holds = let P : Option Step → Type 0 = λ p. OnStep p claim in subst P is holds
+
+abbrev FollowsAt : Remainder → List Labelled → State → Type 0
+FollowsAt r ls state = Follows state.expect state.groups r ls
+
+-- tokens that are read from a state to the end of a query are what follows there
+read-follows : (ls : List Labelled) (state : State) → Reads ended state ls → FollowsAt (remainder_of ls) ls state
+unfolding remainder_of next_step
+read-follows [] state e = let here : FollowsAt nothing_left [] ended = refl in subst (FollowsAt nothing_left []) (sym e) here
+read-follows (l ∷ ls) state (next, is, reads) =
+    on-step (step_at state.expect state.groups (terminal_of l.token))
+    (λ step. FollowsAt (remainder_of ls) ls step.state → Follows state.expect state.groups (grow step.role (terminal_of l.token) l.token (remainder_of ls)) (with_role step.role l.token ∷ ls))
+    (record { state = next; role = l.role }) is
+    (grows state.expect state.groups (terminal_of l.token) l.token refl (remainder_of ls) ls)
+    (read-follows ls next reads)
+
+-- what follows at the start is a query
+follows-query : (r : Remainder) (parts : Parts) (ls : List Labelled) →
+    (IsPrologue r.head.declarations ▸ Keyword terminals.SelectWord ▸ IsDistinct r.head.distinct ▸ AreColumns r.head.columns ▸ Maybe (Keyword terminals.WhereWord) ▸ NestedFirst parts 0 r.outer) ls [] →
+    (IsPrologue r.head.declarations ▸ Keyword terminals.SelectWord ▸ IsDistinct r.head.distinct ▸ AreColumns r.head.columns ▸ Maybe (Keyword terminals.WhereWord) ▸ IsGroup (main_group parts)) ls []
+follows-query r NoParts ls (m1, a, (m2, b, (m3, c, (m4, d, (m5, e, never))))) = absurd never
+follows-query r (OptionalPart block parts next rest) ls (m1, a, (m2, b, (m3, c, (m4, d, (m5, e, never))))) = absurd never
+follows-query r (NestedPart block parts next rest) ls (m1, a, (m2, b, (m3, c, (m4, d, (m5, e, (m6, braces, last)))))) =
+    let P : List Labelled → Type 0 = λ to. InBraces (IsBlock block ▸ AreParts parts) m5 to in
+    (m1, a, (m2, b, (m3, c, (m4, d, (m5, e, subst P last braces)))))
+
+-- tokens that are read from the start to the end of a query are a query
+pub reads-query : (labelled : List Labelled) → Reads ended start labelled → IsQuery (tree_left (remainder_of labelled)) labelled
+reads-query labelled reads = record { spelled =
+    follows-query (remainder_of labelled) (remainder_of labelled).parts labelled (read-follows labelled start reads)
+  }
