@@ -11,7 +11,7 @@ use Rattle.sparql_parse.specs.declared.expect.Step.{Step}
 use Rattle.sparql_parse.specs.Terminals.{terminal_of}
 use Rattle.sparql_parse.specs.Roles.{Labelled, with_role}
 use Rattle.sparql_parse.specs.Grammar.{Spelling, ◌▸◌, Nothing, Never, Maybe, Token, SomeToken, Keyword}
-use Rattle.sparql_parse.specs.Expecting.{state_of, reads, step_at, next_step, outside}
+use Rattle.sparql_parse.specs.Expecting.{state_of, reads, step_at, next_step, ended}
 use Rattle.sparql_parse.proofs.Remainders.{Remainder, grow, grow_keyword, remainder_of}
 use Rattle.sparql_parse.proofs.Weakenings.{Reads-as}
 
@@ -22,10 +22,6 @@ step_of state role = record { state = state; role = role }
 abbrev pub Reads : State → State → List Labelled → Type 0
 Reads last state [] = state ≡ last
 Reads last state (l ∷ ls) = (next : State) × (next_step state (terminal_of l.token) ≡ Some (step_of next l.role)) × Reads last next ls
-
--- the state behind the last token of a query
-abbrev pub ended : State
-ended = outside 0
 
 -- the first token is read by this rule, and the others to the end of a query
 abbrev pub ReadsBy : (Terminal → Option Step) → List Labelled → Type 0

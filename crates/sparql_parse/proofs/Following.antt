@@ -13,9 +13,9 @@ use Rattle.sparql_parse.specs.Terminals.{terminal_of}
 use Rattle.sparql_parse.specs.Roles.{Labelled, with_role}
 use Rattle.sparql_parse.specs.Tree.{Node, VariableNode, IriNode, StringNode, TaggedNode, TypedNode, NumberNode, BooleanNode, TypeNode, Property, Same, Parts, NoParts, OptionalPart, NestedPart, Group, Declaration, Columns, AllColumns, Variables, Syntax}
 use Rattle.sparql_parse.specs.Grammar.{Spelling, ◌▸◌, Nothing, Never, Many, none, more, Maybe, Token, SomeToken, Keyword, IsIri, IsNode, IsVerb, AreMoreObjects, AreObjects, IsProperty, AreMoreProperties, AreProperties, IsSame, AreMoreSames, IsBlock, InBraces, AreParts, IsGroup, AreMoreVariables, AreVariables, AreColumns, IsDistinct, IsDeclaration, IsPrologue, SpellsQuery, IsQuery}
-use Rattle.sparql_parse.specs.Expecting.{prologue_step, declared_prefix_step, namespace_step, projection_step, columns_step, more_columns_step, where_step, group_step, block_step, element_step, after_element_step, verb_step, object_step, datatype_step, after_subject_string_step, after_objects_step, after_object_step, after_object_string_step, after_semicolon_step, step_at, next_step, outside, start}
+use Rattle.sparql_parse.specs.Expecting.{prologue_step, declared_prefix_step, namespace_step, projection_step, columns_step, more_columns_step, where_step, group_step, block_step, element_step, after_element_step, verb_step, object_step, datatype_step, after_subject_string_step, after_objects_step, after_object_step, after_object_string_step, after_semicolon_step, step_at, next_step, outside, start, ended}
 use Rattle.sparql_parse.proofs.Remainders.{main_group, with_column, with_declaration, open_group, as_optional, Suffix, NoSuffix, TagSuffix, TypeSuffix, Head, head_of, no_head, Remainder, left, group_of, property_of, same_of, declaration_of, string_node, nothing_left, grow, remainder_of, tree_left}
-use Rattle.sparql_parse.proofs.Carrying.{Reads, ended}
+use Rattle.sparql_parse.proofs.Carrying.{Reads}
 
 -- behind the '}' of a group, round which n are open: what is left of each
 abbrev Outside : ℕ → List Group → Spelling
@@ -109,7 +109,7 @@ Follows expects.AfterSemicolon n r ls = InGroup (λ n. AfterSemicolon r.properti
 Follows expects.End n r ls = ls ≡ []
 
 -- what holds of a step, if there is one
-abbrev OnStep : Option Step → (Step → Type 0) → Type 0
+abbrev pub OnStep : Option Step → (Step → Type 0) → Type 0
 OnStep None claim = Unit {0}
 OnStep (Some step) claim = claim step
 
@@ -428,7 +428,7 @@ grows expects.AfterSemicolon zero terminal token is r ls = in-group expects.Afte
 grows expects.AfterSemicolon (suc n) terminal token is r ls = after_semicolon-grows n terminal token is r ls
 grows expects.End n terminal token is r ls = tt
 
-on-step : (o : Option Step) (claim : Step → Type 0) (step : Step) → o ≡ Some step → OnStep o claim → claim step
+pub on-step : (o : Option Step) (claim : Step → Type 0) (step : Step) → o ≡ Some step → OnStep o claim → claim step
 on-step o claim step is holds = let P : Option Step → Type 0 = λ p. OnStep p claim in subst P is holds
 
 abbrev FollowsAt : Remainder → List Labelled → State → Type 0

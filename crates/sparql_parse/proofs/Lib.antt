@@ -1,6 +1,8 @@
 mod Carrying
+mod Endings
 mod Examples
 mod Following
 mod Productions
 mod Remainders
+mod Runs
 mod Weakenings

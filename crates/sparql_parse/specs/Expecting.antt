@@ -1,6 +1,6 @@
 -- The second layer of the grammar: what a query expects behind its tokens, read one by one. All that counts is
 -- what was read last, and how many groups are open. One function for each rule, in the order of the grammar.
-use Rattle.std.specs.Prelude.{◌≡◌, ℕ, zero, suc, List, [], ◌∷◌, Option, Some, None, option_and_then}
+use Rattle.std.specs.Prelude.{◌≡◌, ◌≢◌, ◌⊎◌, ◌<◌, ℕ, zero, suc, List, [], ◌∷◌, Option, Some, None, option_and_then, length, take}
 use Rattle.query_tokens.specs.Token.{Lexeme}
 use Rattle.sparql_parse.specs.declared.terminal.Terminal.{Terminal}
 use Rattle.sparql_parse.specs.declared.terminal.Terminal.TheVariants as terminals
@@ -11,7 +11,7 @@ use Rattle.sparql_parse.specs.declared.expect.Expect.TheVariants.{Prologue, Decl
 use Rattle.sparql_parse.specs.declared.expect.State.{State}
 use Rattle.sparql_parse.specs.declared.expect.Step.{Step}
 use Rattle.sparql_parse.specs.Terminals.{terminal_of}
-use Rattle.sparql_parse.specs.Roles.{Labelled, with_role}
+use Rattle.sparql_parse.specs.Roles.{Labelled, tokens_of, with_role}
 
 abbrev pub state_of : Expect → ℕ → State
 state_of expect groups = record { expect = expect; groups = groups }
@@ -19,6 +19,10 @@ state_of expect groups = record { expect = expect; groups = groups }
 -- where a query stands before its first token
 abbrev pub start : State
 start = state_of Prologue 0
+
+-- where a query stands behind its last token
+abbrev pub ended : State
+ended = state_of End 0
 
 -- a token that is read in this role: what is expected behind it, and how many groups are open there
 abbrev pub reads : Role → Expect → ℕ → Option Step
@@ -66,12 +70,12 @@ more_columns_step n terminal = where_step n terminal
 
 -- behind the '}' of a group, round which n are open
 abbrev pub outside : ℕ → State
-outside zero = state_of End 0
+outside zero = ended
 outside (suc n) = state_of AfterElement (suc n)
 
 -- behind a '}', before which n groups are open
 abbrev pub closed : ℕ → State
-closed zero = outside 0
+closed zero = ended
 closed (suc n) = outside n
 
 -- element ::= 'OPTIONAL' group | group, or the end of the group
@@ -199,3 +203,16 @@ unfoldable pub read_tokens : State → List Lexeme → Option Reading
 read_tokens state [] = Some (record { labelled = []; state = state })
 read_tokens state (token ∷ tokens) =
     option_and_then (λ step. reading_before step.role token (read_tokens step.state tokens)) (next_step state (terminal_of token))
+
+-- the tokens are read in these roles, to where nothing more is expected
+pub record IsReadToEnd (labelled : List Labelled) : Type 0 where
+  pub state : State
+  pub run : read_tokens start (tokens_of labelled) ≡ Some (record { labelled = labelled; state = state })
+  pub at_end : state.expect ≡ End
+
+-- The run over tokens stops at number i, from 0: those before it are read, and it is not; at the end of the
+-- tokens, where all are read and more is expected.
+pub record StopsAt (tokens : List Lexeme) (i : ℕ) : Type 0 where
+  pub reading : Reading
+  pub before : read_tokens start (take i tokens) ≡ Some reading
+  pub stops : (i < length tokens × (read_tokens start (take (suc i) tokens) ≡ None)) ⊎ ((i ≡ length tokens) × (reading.state.expect ≢ End))
