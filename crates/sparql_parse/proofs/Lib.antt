@@ -2,6 +2,7 @@ mod Carrying
 mod Endings
 mod Examples
 mod Following
+mod GrammarLaws
 mod Productions
 mod Remainders
 mod Runs
