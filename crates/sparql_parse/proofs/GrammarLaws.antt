@@ -1,19 +1,21 @@
 -- The grammar and the push parser: queries are what is read to its end, and the fault stands where the run stops.
 use Rattle.std.proofs.Common.{◌≡◌, ◌≢◌, ℕ, suc, ◌<◌, ◌≤◌, ◌⊎◌, inl, inr, ◌↔◌, List, [], ◌∷◌, ◌++◌, length, take, drop, map, Option, Some, None, IsSome, is_some, true, refl, sym, ◌∙◌, ap, subst, arith}
-use Rattle.std.proofs.lemmas.List.{map-append, take_all}
+use Rattle.std.proofs.lemmas.List.{map-append, take_all, length-take-le, take-append-le, take-append-drop}
 use Rattle.query_tokens.specs.Token.{Lexeme}
+use Rattle.sparql_parse.specs.declared.expect.Expect.{Expect}
 use Rattle.sparql_parse.specs.declared.expect.Expect.TheVariants as expects
+use Rattle.sparql_parse.specs.declared.expect.Step.{Step}
 use Rattle.sparql_parse.specs.declared.expect.State.{State}
 use Rattle.sparql_parse.specs.Terminals.{terminal_of}
 use Rattle.sparql_parse.specs.Roles.{Labelled, tokens_of, with_role}
 use Rattle.sparql_parse.specs.Tree.{Syntax}
 use Rattle.sparql_parse.specs.Grammar.{IsQuery, Begins, AreQuery, HasFaultAt}
-use Rattle.sparql_parse.specs.Expecting.{start, ended, next_step, Reading, read_tokens, IsReadToEnd, StopsAt}
+use Rattle.sparql_parse.specs.Expecting.{start, ended, next_step, Reading, read_before, read_tokens, IsReadToEnd, StopsAt}
 use Rattle.sparql_parse.proofs.Remainders.{tree_left, remainder_of}
 use Rattle.sparql_parse.proofs.Carrying.{Reads}
 use Rattle.sparql_parse.proofs.Productions.{query-reads, query-tree}
 use Rattle.sparql_parse.proofs.Following.{reads-query}
-use Rattle.sparql_parse.proofs.Runs.{reading_of, reads-run, run-reads, reads-append, read-front, read-last-none}
+use Rattle.sparql_parse.proofs.Runs.{reading_of, read-nothing, read-none, read-step, read-step-none, reads-run, run-reads, reads-append, read-front, read-last-none}
 use Rattle.sparql_parse.proofs.Endings.{at_end-ended, state-ends}
 
 -- a query is read to its end, in its roles
@@ -110,3 +112,98 @@ StopsAt-HasFaultAt tokens i stop =
       | inr at_end ↦ inr (at_end.0, λ query. at_end.1 (
             let read = AreQuery-read tokens query in
             ended-expect read.0 stop.reading (read_tokens start tokens) (ap (read_tokens start) (sym (whole tokens i at_end.0)) ∙ stop.before) read.1)) ] }
+
+some-IsSome : {A : Type 0} (o : Option A) (x : A) → o ≡ Some x → IsSome o
+some-IsSome o x e = ap (λ p. is_some p) e
+
+IsSome-some : {A : Type 0} (o : Option A) → IsSome o → (x : A) × (o ≡ Some x)
+IsSome-some (Some x) is = (x, refl)
+IsSome-some None is = cc
+
+pub Begins-IsSome : (tokens : List Lexeme) → Begins tokens ↔ IsSome (read_tokens start tokens)
+Begins-IsSome tokens =
+    (λ begins. let read = Begins-read tokens begins in some-IsSome (read_tokens start tokens) read.0 read.1,
+     λ some. let read = IsSome-some (read_tokens start tokens) some in read-Begins tokens read.0 read.1)
+
+-- what begins a query has fronts that begin one
+begun-front : (front back : List Lexeme) → Begins (front ++ back) → Begins front
+begun-front front back begins =
+    let read = Begins-read (front ++ back) begins in
+    let before = read-front front back start read.0 read.1 in
+    read-Begins front before.0 before.1
+
+begun-before : (tokens : List Lexeme) (k j : ℕ) → k ≤ j → j ≤ length tokens → Begins (take j tokens) → Begins (take k tokens)
+begun-before tokens k j k_below j_in begins =
+    let in_front : k ≤ length (take j tokens) = rw length-take-le k_below in
+    let same : take k (take j tokens) ≡ take k tokens =
+        sym (take-append-le k (take j tokens) (drop j tokens) in_front) ∙ ap (take k) (take-append-drop j tokens) in
+    let split : Begins (take k (take j tokens) ++ drop k (take j tokens)) = subst Begins (sym (take-append-drop k (take j tokens))) begins in
+    subst Begins same (begun-front (take k (take j tokens)) (drop k (take j tokens)) split)
+
+in-tokens : (tokens : List Lexeme) (i : ℕ) → HasFaultAt tokens i → i ≤ length tokens
+in-tokens tokens i has = elim has.fault [ inl inside ↦ (let lt : i < length tokens = inside.0 in omega arith) | inr at_end ↦ (let e : i ≡ length tokens = at_end.0 in omega arith) ]
+
+no_later-fault : (tokens : List Lexeme) (i j : ℕ) → HasFaultAt tokens i → HasFaultAt tokens j → i < j → ⊥
+no_later-fault tokens i j first later below =
+    let j_in : j ≤ length tokens = in-tokens tokens j later in
+    elim first.fault [
+        inl inside ↦ inside.1 (begun-before tokens (suc i) j (let le : suc i ≤ j = omega arith in le) j_in later.before)
+      | inr at_end ↦ (let e : i ≡ length tokens = at_end.0 in absurd (omega arith)) ]
+
+pub one-fault : (tokens : List Lexeme) (i j : ℕ) → HasFaultAt tokens i → HasFaultAt tokens j → i ≡ j
+one-fault tokens i j first other =
+    let not_below : i < j → ⊥ = no_later-fault tokens i j first other in
+    let not_above : j < i → ⊥ = no_later-fault tokens j i other first in
+    omega arith
+
+query-Begins : (tokens : List Lexeme) → AreQuery tokens → Begins tokens
+query-Begins tokens query = let read = AreQuery-read tokens query in read-Begins tokens (reading_of read.0 ended) read.1
+
+pub query-no_fault : (tokens : List Lexeme) (i : ℕ) → AreQuery tokens → ¬ HasFaultAt tokens i
+query-no_fault tokens i query has = elim has.fault [
+    inl inside ↦ (
+        let lt : suc i ≤ length tokens = (let l : i < length tokens = inside.0 in omega arith) in
+        let le : length tokens ≤ length tokens = omega arith in
+        let all : Begins (take (length tokens) tokens) = subst Begins (sym (take_all (length tokens) tokens le)) (query-Begins tokens query) in
+        inside.1 (begun-before tokens (suc i) (length tokens) lt le all))
+  | inr at_end ↦ at_end.1 query ]
+
+-- the first token that is not read from a state on, if there is one
+data FirstUnread (state : State) (tokens : List Lexeme) : Type 0 where
+  all_read : (reading : Reading) → read_tokens state tokens ≡ Some reading → FirstUnread state tokens
+  unread : (i : ℕ) (reading : Reading) → i < length tokens → read_tokens state (take i tokens) ≡ Some reading → read_tokens state (take (suc i) tokens) ≡ None → FirstUnread state tokens
+
+unread-behind : (state : State) (token : Lexeme) (tokens : List Lexeme) (step : Step) → next_step state (terminal_of token) ≡ Some step →
+    FirstUnread step.state tokens → FirstUnread state (token ∷ tokens)
+unread-behind state token tokens step is (all_read reading read) =
+    all_read (read_before step.role token reading) (read-step state token tokens step reading is read)
+unread-behind state token tokens step is (unread i reading below read none) =
+    unread (suc i) (read_before step.role token reading) (let lt : suc i < suc (length tokens) = omega arith in lt)
+    (read-step state token (take i tokens) step reading is read) (read-step-none state token (take (suc i) tokens) step is none)
+
+first-unread-step : (state : State) (token : Lexeme) (tokens : List Lexeme) (step : Option Step) → next_step state (terminal_of token) ≡ step →
+    ((next : State) → FirstUnread next tokens) → FirstUnread state (token ∷ tokens)
+first-unread-step state token tokens None is rest =
+    unread 0 (reading_of [] state) (let lt : 0 < suc (length tokens) = omega arith in lt) (read-nothing state) (read-none state token [] is)
+first-unread-step state token tokens (Some step) is rest = unread-behind state token tokens step is (rest step.state)
+
+first-unread : (tokens : List Lexeme) (state : State) → FirstUnread state tokens
+first-unread [] state = all_read (reading_of [] state) (read-nothing state)
+first-unread (token ∷ tokens) state = first-unread-step state token tokens (next_step state (terminal_of token)) refl (first-unread tokens)
+
+is-end : (expect : Expect) → (expect ≡ expects.End) ⊎ (expect ≢ expects.End)
+is-end expects.End = inl refl
+is-end _ = inr (λ e. cc)
+
+query-or-fault-read : (tokens : List Lexeme) → FirstUnread start tokens → AreQuery tokens ⊎ ((i : ℕ) × HasFaultAt tokens i)
+query-or-fault-read tokens (unread i reading below read none) =
+    inr (i, StopsAt-HasFaultAt tokens i (record { reading = reading; before = read; stops = inl (below, none) }))
+query-or-fault-read tokens (all_read reading read) = elim (is-end reading.state.expect) [
+    inl done ↦ inl (read-AreQuery tokens reading read done)
+  | inr going ↦ inr (length tokens, StopsAt-HasFaultAt tokens (length tokens) (record {
+        reading = reading;
+        before = ap (read_tokens start) (whole tokens (length tokens) refl) ∙ read;
+        stops = inr (refl, going) })) ]
+
+pub query-or-fault : (tokens : List Lexeme) → AreQuery tokens ⊎ ((i : ℕ) × HasFaultAt tokens i)
+query-or-fault tokens = query-or-fault-read tokens (first-unread tokens start)

@@ -32,6 +32,12 @@ read-step state token tokens step reading is rest =
 pub read-none : (state : State) (token : Lexeme) (tokens : List Lexeme) → next_step state (terminal_of token) ≡ None → read_tokens state (token ∷ tokens) ≡ None
 read-none state token tokens is = read-cons state token tokens ∙ ap (behind_step token tokens) is
 
+-- a token that is read, and behind it one that is not
+pub read-step-none : (state : State) (token : Lexeme) (tokens : List Lexeme) (step : Step) →
+    next_step state (terminal_of token) ≡ Some step → read_tokens step.state tokens ≡ None → read_tokens state (token ∷ tokens) ≡ None
+read-step-none state token tokens step is rest =
+    read-cons state token tokens ∙ ap (behind_step token tokens) is ∙ ap (reading_before step.role token) rest
+
 -- the first step of a run, and the rest of it
 pub record FirstStep (state : State) (token : Lexeme) (tokens : List Lexeme) (reading : Reading) : Type 0 where
   pub step : Step
@@ -126,4 +132,4 @@ read-last-none (first_token ∷ front) token state reading read is =
     let first = first-step state first_token front reading read in
     let same : first.rest.state ≡ reading.state = ap (λ (r : Reading). r.state) first.whole in
     let rest = read-last-none front token first.step.state first.rest first.rest_is (ap (λ s. next_step s (terminal_of token)) same ∙ is) in
-    read-cons state first_token (front ++ token ∷ []) ∙ ap (behind_step first_token (front ++ token ∷ [])) first.is ∙ ap (reading_before first.step.role first_token) rest
+    read-step-none state first_token (front ++ token ∷ []) first.step first.is rest

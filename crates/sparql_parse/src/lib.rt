@@ -2,9 +2,14 @@
 #![tactic(auto)]
 
 mod expect;
+mod laws;
 mod syntax;
 mod terminal;
 
 pub use expect::{Expect, State, Step, next};
+pub use laws::{
+    beginnings_are_read, queries_are_read_to_their_end, the_fault_is_where_the_run_stops,
+    tokens_have_one_tree,
+};
 pub use syntax::Role;
 pub use terminal::{Terminal, terminal_of};
