@@ -3,3 +3,4 @@ pub mod Grammar
 pub mod Roles
 pub mod Terminals
 pub mod Tree
+pub mod Words

@@ -5,6 +5,7 @@ mod expect;
 mod laws;
 mod syntax;
 mod terminal;
+mod words;
 
 pub use expect::{Expect, State, Step, next};
 pub use laws::{
@@ -13,3 +14,4 @@ pub use laws::{
 };
 pub use syntax::Role;
 pub use terminal::{Terminal, terminal_of};
+pub use words::{Word, unsupported_word};
