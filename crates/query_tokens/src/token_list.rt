@@ -23,7 +23,7 @@ impl<'a> TokenList<'a> {
     ghost use Rattle.query_tokens.specs.Token.{shown};
 
     /// A list of these tokens.
-    pub fn of(tokens: Vec<Token<'a>>) -> TokenList<'a>
+    pub(crate) fn of(tokens: Vec<Token<'a>>) -> TokenList<'a>
         ensures { result ≡ map shown tokens.entry.items }
     {
         TokenList { tokens }

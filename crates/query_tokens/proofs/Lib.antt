@@ -1,0 +1,12 @@
+pub mod Walks
+pub mod Uchars
+pub mod Iris
+pub mod QuotedStrings
+pub mod BlankRuns
+pub mod LocalNames
+pub mod Reached
+pub mod NumberTexts
+pub mod PrefixTexts
+pub mod TokenTexts
+pub mod TokenLists
+pub mod OneList

@@ -1,0 +1,71 @@
+-- Walks over pieces in a row, each of which is passed whatever follows it.
+use Rattle.std.proofs.Common.{◌≡◌, ℕ, ◌<◌, ◌≤◌, Option, Some, None, List, ◌∷◌, ◌++◌, length, refl, ap, ◌∙◌, arith, length-append}
+use Rattle.std.proofs.lemmas.Bool.{eq-eqb}
+use Rattle.bm_term.specs.Text.{after_char}
+use Rattle.bm_term.specs.Repetition.{Star, after_pieces}
+use Rattle.bm_term.proofs.TextLemmas.{after_char-some}
+use Rattle.bm_term.proofs.RepetitionLemmas.{GoesForward, after_pieces-step, PassesPieces, splits, passed}
+
+-- the front of a text that one step passes
+pub record Passed {V : Type 0} (P : List ℕ → V → Type 0) (text rest : List ℕ) : Type 0 where
+  pub front : List ℕ
+  pub value : V
+  pub piece : P front value
+  pub split : text ≡ front ++ rest
+
+module _ {V : Type 0} (P : List ℕ → V → Type 0) (step : List ℕ → Option (List ℕ)) where
+  abbrev pub IsSound : Type 0
+  IsSound = (text rest : List ℕ) → step text ≡ Some rest → Passed P text rest
+
+  abbrev pub HaveLength : Type 0
+  HaveLength = (front : List ℕ) (v : V) → P front v → 0 < length front
+
+  abbrev pub PassesEach : Type 0
+  PassesEach = (front rest : List ℕ) (v : V) → P front v → step (front ++ rest) ≡ Some rest
+
+  pub passes : IsSound → PassesPieces P step
+  passes sound text rest e = let found = sound text rest e in (found.front, found.value, found.piece, found.split)
+
+  pub forward : IsSound → HaveLength → GoesForward step
+  forward sound long text rest e =
+      let found = sound text rest e in
+      omega (arith, ap length found.split, length-append found.front rest, long found.front found.value found.piece)
+
+  pub length-after_pieces : IsSound → HaveLength → (text : List ℕ) → length (after_pieces step text) ≤ length text
+  length-after_pieces sound long text =
+      let (front, vs, star, split) = splits P step (passes sound) (forward sound long) text in
+      omega (arith, ap length split, length-append front (after_pieces step text))
+
+  module _ (close : ℕ) where
+    -- pieces, and then the closing mark
+    pub record Closed (text rest : List ℕ) : Type 0 where
+      pub body : List ℕ
+      pub values : List V
+      pub star : Star P body values
+      pub split : text ≡ body ++ close ∷ rest
+
+    pub closed : IsSound → HaveLength → (text rest : List ℕ) → after_char close (after_pieces step text) ≡ Some rest → Closed text rest
+    closed sound long text rest e =
+        let (front, vs, star, split) = splits P step (passes sound) (forward sound long) text in
+        let ends = after_char-some close (after_pieces step text) rest e in
+        record {
+          body = front;
+          values = vs;
+          star = star;
+          split = split ∙ ap (λ xs. front ++ xs) ends;
+        }
+
+    -- the closing mark is no piece, so just what follows it is read
+    pub closed_again : IsSound → HaveLength → PassesEach → ((rest : List ℕ) → step (close ∷ rest) ≡ None)
+        → (vs : List V) (body rest : List ℕ) → Star P body vs → after_char close (after_pieces step (body ++ close ∷ rest)) ≡ Some rest
+    closed_again sound long each stops vs body rest star =
+        let ahead = forward sound long in
+        let whole = passed P step (λ _. Unit {0}) (λ _ _ _ _. tt) ahead (λ front more v piece _. each front more v piece) vs body (close ∷ rest) star tt in
+        let stop : after_pieces step (close ∷ rest) ≡ close ∷ rest = rw (after_pieces-step step ahead (close ∷ rest), stops rest) refl in
+        rw (whole, stop, eq-eqb close close refl) refl
+
+pub after_pieces-more : (step : List ℕ → Option (List ℕ)) → GoesForward step → (text rest : List ℕ) → step text ≡ Some rest → after_pieces step text ≡ after_pieces step rest
+after_pieces-more step ahead text rest e = rw (after_pieces-step step ahead text, e) refl
+
+pub after_pieces-none : (step : List ℕ → Option (List ℕ)) → GoesForward step → (text : List ℕ) → step text ≡ None → after_pieces step text ≡ text
+after_pieces-none step ahead text e = rw (after_pieces-step step ahead text, e) refl

@@ -1,0 +1,29 @@
+-- VAR1 and VAR2. SPARQL 1.1 Query, section 19.8.
+use Rattle.std.specs.Prelude.{◌≡◌, ℕ, Bool, ◌||◌, ◌==◌, if◌then◌else◌, IsTrue, Option, Some, None, List, [], ◌∷◌}
+use Rattle.std.specs.Int.{is_in_range}
+use Rattle.std.specs.List.{list_all}
+use Rattle.bm_term.specs.Classes.{is_sparql_label_first}
+use Rattle.bm_term.specs.Text.{after_run}
+use Rattle.query_tokens.specs.Marks.{question_mark, dollar_sign}
+
+-- '?' | '$'
+abbrev pub is_variable_mark : ℕ → Bool
+is_variable_mark c = c == question_mark || c == dollar_sign
+
+-- PN_CHARS_U | [0-9] | #xB7 | [#x300-#x36F] | [#x203F-#x2040]
+unfoldable pub is_variable_inner : ℕ → Bool
+is_variable_inner c = is_sparql_label_first c || c == 0xB7 || is_in_range 0x300 0x36F c || is_in_range 0x203F 0x2040 c
+
+-- VARNAME ::= (PN_CHARS_U | [0-9]) (PN_CHARS_U | [0-9] | #xB7 | [#x300-#x36F] | [#x203F-#x2040])*
+abbrev pub IsVariableName : List ℕ → Type 0
+IsVariableName name =
+    (c : ℕ) × (rest : List ℕ) × IsTrue (is_sparql_label_first c) × IsTrue (list_all is_variable_inner rest) × (name ≡ c ∷ rest)
+
+-- ('?' | '$') VARNAME
+abbrev pub IsVariable : List ℕ → Type 0
+IsVariable text = (mark : ℕ) × (name : List ℕ) × IsTrue (is_variable_mark mark) × IsVariableName name × (text ≡ mark ∷ name)
+
+-- what follows the longest name
+unfoldable pub after_variable_name : List ℕ → Option (List ℕ)
+after_variable_name [] = None
+after_variable_name (c ∷ cs) = if is_sparql_label_first c then Some (after_run is_variable_inner cs) else None

@@ -1,0 +1,107 @@
+// PNAME_NS and PNAME_LN, and words, which may begin like them.
+ghost use Rattle.std.specs.Prelude.{◌≡◌, ℕ, Bool, IfSome};
+ghost use Rattle.std.specs.Option.{option_map};
+ghost use Rattle.std.specs.Str.{chars, IsUtf8};
+ghost use Rattle.bm_term.specs.Repetition.{after_pieces};
+ghost use Rattle.query_tokens.specs.PrefixedNames.{after_one, after_two_digits, after_local_piece, after_dotted_piece, after_local, read_local, after_prefix, read_name};
+
+use crate::class_types::{FullStop, Hex, LocalEscape, LocalFirst, LocalInner};
+use crate::token::TokenKind;
+use bm_term::{
+    CharClass, Letter, PnCharsBase, SparqlPnChars, after_char, after_dotted_name, after_run,
+    after_some, split_char,
+};
+
+// A prefixed name, a prefix that has a name, or a word.
+#[tactic(auto, unfolding(crate::specs::PrefixedNames::read_name))]
+pub(crate) fn read_name(text: &str) -> Option<(TokenKind, &str)>
+    ensures chars { option_map (λ p. (p.0, chars p.1.now)) result ≡ read_name (chars text.now) }
+    ensures utf8 { IfSome result (λ p. IsUtf8 p.1.now) }
+{
+    match after_prefix(text) {
+        Some(rest) => Some(read_local(rest)),
+        None => Some((TokenKind::Word, after_some(text, Letter)?)),
+    }
+}
+
+// PN_PREFIX ':'
+#[tactic(auto, unfolding(crate::specs::PrefixedNames::after_prefix))]
+fn after_prefix(text: &str) -> Option<&str>
+    ensures chars { option_map (λ rest. chars rest.now) result ≡ after_prefix (chars text.now) }
+    ensures utf8 { IfSome result (λ rest. IsUtf8 rest.now) }
+{
+    after_char(after_dotted_name(text, PnCharsBase, SparqlPnChars)?, ':')
+}
+
+// A prefixed name or a prefix, whose colon is already read.
+pub(crate) fn read_local(text: &str) -> (TokenKind, &str)
+    ensures chars { (result.0, chars result.1.now) ≡ read_local (chars text.now) }
+    ensures utf8 { IsUtf8 result.1.now }
+{
+    match after_local(text) {
+        Some(rest) => (TokenKind::Prefixed, rest),
+        None => (TokenKind::Prefix, text),
+    }
+}
+
+// PN_LOCAL
+#[tactic(auto, unfolding(crate::specs::PrefixedNames::after_local))]
+fn after_local(text: &str) -> Option<&str>
+    ensures chars { option_map (λ rest. chars rest.now) result ≡ after_local (chars text.now) }
+    ensures utf8 { IfSome result (λ rest. IsUtf8 rest.now) }
+{
+    Some(after_dotted_pieces(after_local_piece(text, LocalFirst)?))
+}
+
+#[tactic(auto, using(crate::proofs::LocalNames::dotted_pieces))]
+fn after_dotted_pieces(text: &str) -> &str
+    ensures { chars result.now ≡ after_pieces after_dotted_piece (chars text.now) }
+{
+    let mut rest = text;
+    while let Some(after) = after_dotted_piece(rest) {
+        rest = after;
+    }
+    rest
+}
+
+// The text after any number of '.' and a piece that is none.
+#[tactic(auto, unfolding(crate::specs::PrefixedNames::after_dotted_piece))]
+fn after_dotted_piece(text: &str) -> Option<&str>
+    ensures chars { option_map (λ rest. chars rest.now) result ≡ after_dotted_piece (chars text.now) }
+    ensures utf8 { IfSome result (λ rest. IsUtf8 rest.now) }
+{
+    after_local_piece(after_run(text, FullStop), LocalInner)
+}
+
+// The text after a member of the class or after PLX.
+#[tactic(auto, unfolding(crate::specs::PrefixedNames::after_local_piece))]
+fn after_local_piece<C: CharClass>(text: &str, class: C) -> Option<&str>
+    ensures chars { option_map (λ rest. chars rest.now) result ≡ after_local_piece C.members (chars text.now) }
+    ensures utf8 { IfSome result (λ rest. IsUtf8 rest.now) }
+{
+    match split_char(text)? {
+        (c, rest) if class.has(c) => Some(rest),
+        ('%', rest) => after_two_digits(rest),
+        ('\\', rest) => after_one(rest, LocalEscape),
+        _ => None,
+    }
+}
+
+#[tactic(auto, unfolding(crate::specs::PrefixedNames::after_two_digits))]
+fn after_two_digits(text: &str) -> Option<&str>
+    ensures chars { option_map (λ rest. chars rest.now) result ≡ after_two_digits (chars text.now) }
+    ensures utf8 { IfSome result (λ rest. IsUtf8 rest.now) }
+{
+    after_one(after_one(text, Hex)?, Hex)
+}
+
+// The text after one member of the class.
+fn after_one<C: CharClass>(text: &str, class: C) -> Option<&str>
+    ensures chars { option_map (λ rest. chars rest.now) result ≡ after_one C.members (chars text.now) }
+    ensures utf8 { IfSome result (λ rest. IsUtf8 rest.now) }
+{
+    match split_char(text)? {
+        (c, rest) if class.has(c) => Some(rest),
+        _ => None,
+    }
+}
