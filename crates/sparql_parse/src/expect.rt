@@ -1,5 +1,5 @@
 // What may come next in a query: the grammar as a push parser.
-ghost use Rattle.std.specs.Prelude.{◌≡◌, ◌+◌, ◌^◌, ◌<◌};
+ghost use Rattle.std.specs.Prelude.{◌≡◌, ◌+◌, ◌^◌, ◌<◌, ◌↔◌, IsTrue};
 ghost use Rattle.sparql_parse.specs.Expecting.{
     after_element_step, after_object_step, after_object_string_step, after_objects_step,
     after_semicolon_step, after_subject_string_step, block_step, closed, columns_step,
@@ -78,6 +78,13 @@ impl State {
         ensures { result ≡ start }
     {
         State { expect: Expect::Prologue, groups: 0 }
+    }
+
+    /// Whether the tokens are a query: nothing more is expected.
+    pub fn is_end(&self) -> bool
+        ensures { IsTrue result ↔ (self.now.expect ≡ Expect.End) }
+    {
+        matches!(self.expect, Expect::End)
     }
 }
 
@@ -321,7 +328,7 @@ fn after_semicolon(groups: usize, terminal: Terminal) -> Option<Step>
         | Terminal::Iri
         | Terminal::Prefixed
         | Terminal::Prefix
-        | Terminal::A => read(Role::Verb, Expect::Object, groups),
+        | Terminal::A => verb(groups, terminal),
         _ => after_objects(groups, terminal),
     }
 }

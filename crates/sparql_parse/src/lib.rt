@@ -15,3 +15,6 @@ pub use laws::{
 pub use syntax::Role;
 pub use terminal::{Terminal, terminal_of};
 pub use words::{Word, unsupported_word};
+
+#[cfg(test)]
+mod tests;
