@@ -5,8 +5,8 @@ use Rattle.std.specs.Str.{str_eq_ignore_ascii_case}
 use Rattle.query_tokens.specs.declared.token.TokenKind.{TokenKind}
 use Rattle.query_tokens.specs.declared.token.TokenKind.TheVariants as kinds
 use Rattle.query_tokens.specs.Token.{Lexeme}
-use Rattle.sparql_parse.specs.declared.terminal.Terminal.{Terminal}
-use Rattle.sparql_parse.specs.declared.terminal.Terminal.TheVariants.{PrefixWord, SelectWord, DistinctWord, WhereWord, OptionalWord, A, Boolean, Variable, Iri, Prefixed, Prefix, Quoted, Tag, Number, Open, Close, Stop, Semicolon, Comma, Star, Carets, Other}
+use Rattle.query_grammar.specs.declared.terminal.Terminal.{Terminal}
+use Rattle.query_grammar.specs.declared.terminal.Terminal.TheVariants.{PrefixWord, SelectWord, DistinctWord, WhereWord, OptionalWord, A, Boolean, Variable, Iri, Prefixed, Prefix, Quoted, Tag, Number, Open, Close, Stop, Semicolon, Comma, Star, Carets, Other}
 
 -- a word is read without case, except `a`
 abbrev pub word_terminal : List ℕ → Terminal

@@ -3,12 +3,12 @@ use Rattle.std.proofs.Common.{◌≡◌, ℕ, zero, suc, List, [], ◌∷◌, �
 use Rattle.std.proofs.lemmas.List.{map-append}
 use Rattle.std.specs.Option.{option_and_then}
 use Rattle.query_tokens.specs.Token.{Lexeme}
-use Rattle.sparql_parse.specs.declared.expect.State.{State}
-use Rattle.sparql_parse.specs.declared.expect.Step.{Step}
-use Rattle.sparql_parse.specs.Terminals.{terminal_of}
-use Rattle.sparql_parse.specs.Roles.{Labelled, tokens_of, with_role}
-use Rattle.sparql_parse.specs.Expecting.{next_step, Reading, read_before, reading_before, read_tokens}
-use Rattle.sparql_parse.proofs.Carrying.{Reads, step_of}
+use Rattle.query_grammar.specs.declared.expect.State.{State}
+use Rattle.query_grammar.specs.declared.expect.Step.{Step}
+use Rattle.query_grammar.specs.Terminals.{terminal_of}
+use Rattle.query_grammar.specs.Roles.{Labelled, tokens_of, with_role}
+use Rattle.query_grammar.specs.Expecting.{next_step, Reading, read_before, reading_before, read_tokens}
+use Rattle.query_grammar.proofs.Carrying.{Reads, step_of}
 
 abbrev pub reading_of : List Labelled → State → Reading
 reading_of labelled state = record { labelled = labelled; state = state }

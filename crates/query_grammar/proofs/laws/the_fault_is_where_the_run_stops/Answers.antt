@@ -1,5 +1,5 @@
-use Rattle.sparql_parse.proofs.GrammarLaws.{HasFaultAt-StopsAt, StopsAt-HasFaultAt, query-or-fault, query-no_fault, one-fault}
-use Rattle.sparql_parse.proofs.laws.the_fault_is_where_the_run_stops.Goals as goal
+use Rattle.query_grammar.proofs.GrammarLaws.{HasFaultAt-StopsAt, StopsAt-HasFaultAt, query-or-fault, query-no_fault, one-fault}
+use Rattle.query_grammar.proofs.laws.the_fault_is_where_the_run_stops.Goals as goal
 
 pub returns-clause-exactly : goal.returns-clause-exactly
 returns-clause-exactly c = λ tokens i. (HasFaultAt-StopsAt tokens i, StopsAt-HasFaultAt tokens i)

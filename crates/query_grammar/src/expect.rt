@@ -1,6 +1,6 @@
 // What may come next in a query: the grammar as a push parser.
 ghost use Rattle.std.specs.Prelude.{◌≡◌, ◌+◌, ◌^◌, ◌<◌, ◌↔◌, IsTrue};
-ghost use Rattle.sparql_parse.specs.Expecting.{
+ghost use Rattle.query_grammar.specs.Expecting.{
     after_element_step, after_object_step, after_object_string_step, after_objects_step,
     after_semicolon_step, after_subject_string_step, block_step, closed, columns_step,
     datatype_step, declared_prefix_step, element_step, group_step, more_columns_step,

@@ -1,13 +1,13 @@
 -- What is left of a syntax tree from a place on, as a fold over the labelled tokens from the right.
 use Rattle.std.proofs.Common.{Bool, true, false, List, [], ◌∷◌}
 use Rattle.query_tokens.specs.Token.{Lexeme}
-use Rattle.sparql_parse.specs.declared.terminal.Terminal.{Terminal}
-use Rattle.sparql_parse.specs.declared.terminal.Terminal.TheVariants as terminals
-use Rattle.sparql_parse.specs.declared.syntax.Role.{Role}
-use Rattle.sparql_parse.specs.declared.syntax.Role.TheVariants as roles
-use Rattle.sparql_parse.specs.Terminals.{terminal_of}
-use Rattle.sparql_parse.specs.Roles.{Labelled}
-use Rattle.sparql_parse.specs.Tree.{Node, VariableNode, IriNode, StringNode, TaggedNode, TypedNode, NumberNode, BooleanNode, TypeNode, Property, Same, Parts, NoParts, OptionalPart, NestedPart, Group, Declaration, Columns, AllColumns, Variables, Syntax}
+use Rattle.query_grammar.specs.declared.terminal.Terminal.{Terminal}
+use Rattle.query_grammar.specs.declared.terminal.Terminal.TheVariants as terminals
+use Rattle.query_grammar.specs.declared.syntax.Role.{Role}
+use Rattle.query_grammar.specs.declared.syntax.Role.TheVariants as roles
+use Rattle.query_grammar.specs.Terminals.{terminal_of}
+use Rattle.query_grammar.specs.Roles.{Labelled}
+use Rattle.query_grammar.specs.Tree.{Node, VariableNode, IriNode, StringNode, TaggedNode, TypedNode, NumberNode, BooleanNode, TypeNode, Property, Same, Parts, NoParts, OptionalPart, NestedPart, Group, Declaration, Columns, AllColumns, Variables, Syntax}
 
 -- what a literal that has begun goes on with
 pub data Suffix : Type 0 where

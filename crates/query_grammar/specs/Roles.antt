@@ -1,7 +1,7 @@
 -- Tokens with their roles in a query.
 use Rattle.std.specs.Prelude.{List, map}
 use Rattle.query_tokens.specs.Token.{Lexeme}
-use Rattle.sparql_parse.specs.declared.syntax.Role.{Role}
+use Rattle.query_grammar.specs.declared.syntax.Role.{Role}
 
 -- a token and its role
 pub record Labelled : Type 0 where

@@ -1,9 +1,9 @@
 -- Where one rule of the push parser takes what another leaves to it.
 use Rattle.std.proofs.Common.{◌≡◌, ℕ, Some, None, Option}
-use Rattle.sparql_parse.specs.declared.terminal.Terminal.{Terminal}
-use Rattle.sparql_parse.specs.declared.terminal.Terminal.TheVariants as terminals
-use Rattle.sparql_parse.specs.declared.expect.Step.{Step}
-use Rattle.sparql_parse.specs.Expecting.{columns_step, projection_step, group_step, where_step, more_columns_step, element_step, block_step, after_element_step, verb_step, after_subject_string_step, after_objects_step, after_object_step, after_object_string_step, after_semicolon_step}
+use Rattle.query_grammar.specs.declared.terminal.Terminal.{Terminal}
+use Rattle.query_grammar.specs.declared.terminal.Terminal.TheVariants as terminals
+use Rattle.query_grammar.specs.declared.expect.Step.{Step}
+use Rattle.query_grammar.specs.Expecting.{columns_step, projection_step, group_step, where_step, more_columns_step, element_step, block_step, after_element_step, verb_step, after_subject_string_step, after_objects_step, after_object_step, after_object_string_step, after_semicolon_step}
 
 -- what one rule reads, the other reads as well, in the same role and to the same state
 pub record Reads-as (first second : Terminal → Option Step) : Type 0 where

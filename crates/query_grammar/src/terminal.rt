@@ -2,7 +2,7 @@
 ghost use Rattle.std.specs.Prelude.{◌==◌, ◌≡◌};
 ghost use Rattle.std.specs.Cmp.Lexicographic.{pointwise};
 ghost use Rattle.query_tokens.specs.Token.{shown};
-ghost use Rattle.sparql_parse.specs.Terminals.{sign_terminal, terminal_of, word_terminal};
+ghost use Rattle.query_grammar.specs.Terminals.{sign_terminal, terminal_of, word_terminal};
 
 use query_tokens::{Token, TokenKind};
 

@@ -3,12 +3,12 @@ use Rattle.std.proofs.Common.{◌≡◌, ℕ, false, List, [], ◌∷◌, codes,
 use Rattle.query_tokens.specs.declared.token.TokenKind.TheVariants as kinds
 use Rattle.query_tokens.specs.declared.token.TokenKind.{TokenKind}
 use Rattle.query_tokens.specs.Token.{Lexeme}
-use Rattle.sparql_parse.specs.declared.terminal.Terminal.TheVariants as terminals
-use Rattle.sparql_parse.specs.declared.syntax.Role.TheVariants as roles
-use Rattle.sparql_parse.specs.Terminals.{terminal_of}
-use Rattle.sparql_parse.specs.Roles.{Labelled, with_role}
-use Rattle.sparql_parse.specs.Tree.{VariableNode, Same, NoParts, AllColumns, Syntax}
-use Rattle.sparql_parse.specs.Grammar.{IsQuery, none}
+use Rattle.query_grammar.specs.declared.terminal.Terminal.TheVariants as terminals
+use Rattle.query_grammar.specs.declared.syntax.Role.TheVariants as roles
+use Rattle.query_grammar.specs.Terminals.{terminal_of}
+use Rattle.query_grammar.specs.Roles.{Labelled, with_role}
+use Rattle.query_grammar.specs.Tree.{VariableNode, Same, NoParts, AllColumns, Syntax}
+use Rattle.query_grammar.specs.Grammar.{IsQuery, none}
 
 abbrev token : TokenKind → List ℕ → Lexeme
 token kind text = record { kind = kind; text = text; at = 0 }

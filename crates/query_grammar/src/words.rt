@@ -3,7 +3,7 @@ ghost use Rattle.std.specs.Prelude.{◌==◌, ◌≡◌, find};
 ghost use Rattle.std.specs.Cmp.Lexicographic.{pointwise};
 ghost use Rattle.std.specs.Str.{str_eq_ignore_ascii_case};
 ghost use Rattle.query_tokens.specs.Token.{shown};
-ghost use Rattle.sparql_parse.specs.Words.{keywords, quotes, signs, unsupported_word, word_text};
+ghost use Rattle.query_grammar.specs.Words.{keywords, quotes, signs, unsupported_word, word_text};
 
 use query_tokens::{Token, TokenKind};
 

@@ -1,5 +1,5 @@
-use Rattle.sparql_parse.proofs.GrammarLaws.{one-labelling, one-tree}
-use Rattle.sparql_parse.proofs.laws.tokens_have_one_tree.Goals as goal
+use Rattle.query_grammar.proofs.GrammarLaws.{one-labelling, one-tree}
+use Rattle.query_grammar.proofs.laws.tokens_have_one_tree.Goals as goal
 
 pub returns-clause-roles : goal.returns-clause-roles
 returns-clause-roles c = one-labelling

@@ -1,21 +1,21 @@
 -- What a state of the push parser stands for: the symbols of the grammar that make what is left a query.
 use Rattle.std.proofs.Common.{◌≡◌, ℕ, zero, suc, inl, inr, Bool, true, false, List, [], ◌∷◌, Option, Some, None, refl, sym, ◌∙◌, ap, subst}
 use Rattle.query_tokens.specs.Token.{Lexeme}
-use Rattle.sparql_parse.specs.declared.terminal.Terminal.{Terminal}
-use Rattle.sparql_parse.specs.declared.terminal.Terminal.TheVariants as terminals
-use Rattle.sparql_parse.specs.declared.syntax.Role.{Role}
-use Rattle.sparql_parse.specs.declared.syntax.Role.TheVariants as roles
-use Rattle.sparql_parse.specs.declared.expect.Expect.{Expect}
-use Rattle.sparql_parse.specs.declared.expect.Expect.TheVariants as expects
-use Rattle.sparql_parse.specs.declared.expect.State.{State}
-use Rattle.sparql_parse.specs.declared.expect.Step.{Step}
-use Rattle.sparql_parse.specs.Terminals.{terminal_of}
-use Rattle.sparql_parse.specs.Roles.{Labelled, with_role}
-use Rattle.sparql_parse.specs.Tree.{Node, VariableNode, IriNode, StringNode, TaggedNode, TypedNode, NumberNode, BooleanNode, TypeNode, Property, Same, Parts, NoParts, OptionalPart, NestedPart, Group, Declaration, Columns, AllColumns, Variables, Syntax}
-use Rattle.sparql_parse.specs.Grammar.{Spelling, ◌▸◌, Nothing, Never, Many, none, more, Maybe, Token, SomeToken, Keyword, IsIri, IsNode, IsVerb, AreMoreObjects, AreObjects, IsProperty, AreMoreProperties, AreProperties, IsSame, AreMoreSames, IsBlock, InBraces, AreParts, IsGroup, AreMoreVariables, AreVariables, AreColumns, IsDistinct, IsDeclaration, IsPrologue, SpellsQuery, IsQuery}
-use Rattle.sparql_parse.specs.Expecting.{prologue_step, declared_prefix_step, namespace_step, projection_step, columns_step, more_columns_step, where_step, group_step, block_step, element_step, after_element_step, verb_step, object_step, datatype_step, after_subject_string_step, after_objects_step, after_object_step, after_object_string_step, after_semicolon_step, step_at, next_step, outside, start, ended}
-use Rattle.sparql_parse.proofs.Remainders.{main_group, with_column, with_declaration, open_group, as_optional, Suffix, NoSuffix, TagSuffix, TypeSuffix, Head, head_of, no_head, Remainder, left, group_of, property_of, same_of, declaration_of, string_node, nothing_left, grow, remainder_of, tree_left}
-use Rattle.sparql_parse.proofs.Carrying.{Reads}
+use Rattle.query_grammar.specs.declared.terminal.Terminal.{Terminal}
+use Rattle.query_grammar.specs.declared.terminal.Terminal.TheVariants as terminals
+use Rattle.query_grammar.specs.declared.syntax.Role.{Role}
+use Rattle.query_grammar.specs.declared.syntax.Role.TheVariants as roles
+use Rattle.query_grammar.specs.declared.expect.Expect.{Expect}
+use Rattle.query_grammar.specs.declared.expect.Expect.TheVariants as expects
+use Rattle.query_grammar.specs.declared.expect.State.{State}
+use Rattle.query_grammar.specs.declared.expect.Step.{Step}
+use Rattle.query_grammar.specs.Terminals.{terminal_of}
+use Rattle.query_grammar.specs.Roles.{Labelled, with_role}
+use Rattle.query_grammar.specs.Tree.{Node, VariableNode, IriNode, StringNode, TaggedNode, TypedNode, NumberNode, BooleanNode, TypeNode, Property, Same, Parts, NoParts, OptionalPart, NestedPart, Group, Declaration, Columns, AllColumns, Variables, Syntax}
+use Rattle.query_grammar.specs.Grammar.{Spelling, ◌▸◌, Nothing, Never, Many, none, more, Maybe, Token, SomeToken, Keyword, IsIri, IsNode, IsVerb, AreMoreObjects, AreObjects, IsProperty, AreMoreProperties, AreProperties, IsSame, AreMoreSames, IsBlock, InBraces, AreParts, IsGroup, AreMoreVariables, AreVariables, AreColumns, IsDistinct, IsDeclaration, IsPrologue, SpellsQuery, IsQuery}
+use Rattle.query_grammar.specs.Expecting.{prologue_step, declared_prefix_step, namespace_step, projection_step, columns_step, more_columns_step, where_step, group_step, block_step, element_step, after_element_step, verb_step, object_step, datatype_step, after_subject_string_step, after_objects_step, after_object_step, after_object_string_step, after_semicolon_step, step_at, next_step, outside, start, ended}
+use Rattle.query_grammar.proofs.Remainders.{main_group, with_column, with_declaration, open_group, as_optional, Suffix, NoSuffix, TagSuffix, TypeSuffix, Head, head_of, no_head, Remainder, left, group_of, property_of, same_of, declaration_of, string_node, nothing_left, grow, remainder_of, tree_left}
+use Rattle.query_grammar.proofs.Carrying.{Reads}
 
 -- behind the '}' of a group, round which n are open: what is left of each
 abbrev Outside : ℕ → List Group → Spelling

@@ -1,16 +1,16 @@
 -- Each production of the grammar is read by its rule of the push parser, and grows its part of the tree.
 use Rattle.std.proofs.Common.{◌≡◌, ℕ, zero, suc, inl, inr, Bool, true, false, List, [], ◌∷◌, refl, ap, ◌∙◌}
 use Rattle.query_tokens.specs.Token.{Lexeme}
-use Rattle.sparql_parse.specs.declared.terminal.Terminal.TheVariants as terminals
-use Rattle.sparql_parse.specs.declared.syntax.Role.TheVariants as roles
-use Rattle.sparql_parse.specs.declared.expect.Expect.TheVariants as expects
-use Rattle.sparql_parse.specs.Roles.{Labelled}
-use Rattle.sparql_parse.specs.Tree.{Node, VariableNode, IriNode, StringNode, TaggedNode, TypedNode, NumberNode, BooleanNode, TypeNode, Property, Same, Parts, NoParts, OptionalPart, NestedPart, Group, Declaration, Columns, AllColumns, Variables, Syntax}
-use Rattle.sparql_parse.specs.Grammar.{Spelling, ◌▸◌, Many, none, more, Maybe, Keyword, IsIri, IsNode, IsVerb, AreMoreObjects, AreObjects, IsProperty, AreMoreProperties, AreProperties, IsSame, AreMoreSames, IsBlock, InBraces, AreParts, IsGroup, AreMoreVariables, AreVariables, AreColumns, IsDistinct, IsDeclaration, IsPrologue, SpellsQuery, IsQuery}
-use Rattle.sparql_parse.specs.Expecting.{prologue_step, declared_prefix_step, namespace_step, projection_step, columns_step, more_columns_step, where_step, group_step, block_step, element_step, after_element_step, verb_step, object_step, datatype_step, after_subject_string_step, after_objects_step, after_object_step, after_object_string_step, after_semicolon_step, outside, start, ended}
-use Rattle.sparql_parse.proofs.Remainders.{Suffix, NoSuffix, TagSuffix, TypeSuffix, head_of, no_head, Remainder, left, group_of, property_of, same_of, declaration_of, nothing_left, remainder_of, tree_left}
-use Rattle.sparql_parse.proofs.Weakenings.{columns-projection, group-where, where-more_columns, group-element, element-block, block-after_element, verb-after_string, element-after_objects, after_objects-after_object, after_object-after_string, after_objects-after_semicolon, verb-after_semicolon}
-use Rattle.sparql_parse.proofs.Carrying.{Reads, On, At, Carries, c-then, c-or, c-before, c-behind, c-nothing, c-never, c-maybe, weaken, at_state, c-token-at, c-token, c-some, c-keyword}
+use Rattle.query_grammar.specs.declared.terminal.Terminal.TheVariants as terminals
+use Rattle.query_grammar.specs.declared.syntax.Role.TheVariants as roles
+use Rattle.query_grammar.specs.declared.expect.Expect.TheVariants as expects
+use Rattle.query_grammar.specs.Roles.{Labelled}
+use Rattle.query_grammar.specs.Tree.{Node, VariableNode, IriNode, StringNode, TaggedNode, TypedNode, NumberNode, BooleanNode, TypeNode, Property, Same, Parts, NoParts, OptionalPart, NestedPart, Group, Declaration, Columns, AllColumns, Variables, Syntax}
+use Rattle.query_grammar.specs.Grammar.{Spelling, ◌▸◌, Many, none, more, Maybe, Keyword, IsIri, IsNode, IsVerb, AreMoreObjects, AreObjects, IsProperty, AreMoreProperties, AreProperties, IsSame, AreMoreSames, IsBlock, InBraces, AreParts, IsGroup, AreMoreVariables, AreVariables, AreColumns, IsDistinct, IsDeclaration, IsPrologue, SpellsQuery, IsQuery}
+use Rattle.query_grammar.specs.Expecting.{prologue_step, declared_prefix_step, namespace_step, projection_step, columns_step, more_columns_step, where_step, group_step, block_step, element_step, after_element_step, verb_step, object_step, datatype_step, after_subject_string_step, after_objects_step, after_object_step, after_object_string_step, after_semicolon_step, outside, start, ended}
+use Rattle.query_grammar.proofs.Remainders.{Suffix, NoSuffix, TagSuffix, TypeSuffix, head_of, no_head, Remainder, left, group_of, property_of, same_of, declaration_of, nothing_left, remainder_of, tree_left}
+use Rattle.query_grammar.proofs.Weakenings.{columns-projection, group-where, where-more_columns, group-element, element-block, block-after_element, verb-after_string, element-after_objects, after_objects-after_object, after_object-after_string, after_objects-after_semicolon, verb-after_semicolon}
+use Rattle.query_grammar.proofs.Carrying.{Reads, On, At, Carries, c-then, c-or, c-before, c-behind, c-nothing, c-never, c-maybe, weaken, at_state, c-token-at, c-token, c-some, c-keyword}
 
 -- what is left in a group, with the parts, the groups round it and the head of another remainder
 abbrev inside : Suffix → List Node → List Property → List Same → Remainder → Remainder

@@ -2,21 +2,21 @@
 use Rattle.std.proofs.Common.{◌≡◌, ◌≢◌, ℕ, suc, ◌<◌, ◌≤◌, ◌⊎◌, inl, inr, ◌↔◌, List, [], ◌∷◌, ◌++◌, length, take, drop, map, Option, Some, None, IsSome, is_some, true, refl, sym, ◌∙◌, ap, subst, arith}
 use Rattle.std.proofs.lemmas.List.{map-append, take_all, length-take-le, take-append-le, take-append-drop}
 use Rattle.query_tokens.specs.Token.{Lexeme}
-use Rattle.sparql_parse.specs.declared.expect.Expect.{Expect}
-use Rattle.sparql_parse.specs.declared.expect.Expect.TheVariants as expects
-use Rattle.sparql_parse.specs.declared.expect.Step.{Step}
-use Rattle.sparql_parse.specs.declared.expect.State.{State}
-use Rattle.sparql_parse.specs.Terminals.{terminal_of}
-use Rattle.sparql_parse.specs.Roles.{Labelled, tokens_of, with_role}
-use Rattle.sparql_parse.specs.Tree.{Syntax}
-use Rattle.sparql_parse.specs.Grammar.{IsQuery, Begins, AreQuery, HasFaultAt}
-use Rattle.sparql_parse.specs.Expecting.{start, ended, next_step, Reading, read_before, read_tokens, IsReadToEnd, StopsAt}
-use Rattle.sparql_parse.proofs.Remainders.{tree_left, remainder_of}
-use Rattle.sparql_parse.proofs.Carrying.{Reads}
-use Rattle.sparql_parse.proofs.Productions.{query-reads, query-tree}
-use Rattle.sparql_parse.proofs.Following.{reads-query}
-use Rattle.sparql_parse.proofs.Runs.{reading_of, read-nothing, read-none, read-step, read-step-none, reads-run, run-reads, reads-append, read-front, read-last-none}
-use Rattle.sparql_parse.proofs.Endings.{at_end-ended, state-ends}
+use Rattle.query_grammar.specs.declared.expect.Expect.{Expect}
+use Rattle.query_grammar.specs.declared.expect.Expect.TheVariants as expects
+use Rattle.query_grammar.specs.declared.expect.Step.{Step}
+use Rattle.query_grammar.specs.declared.expect.State.{State}
+use Rattle.query_grammar.specs.Terminals.{terminal_of}
+use Rattle.query_grammar.specs.Roles.{Labelled, tokens_of, with_role}
+use Rattle.query_grammar.specs.Tree.{Syntax}
+use Rattle.query_grammar.specs.Grammar.{IsQuery, Begins, AreQuery, HasFaultAt}
+use Rattle.query_grammar.specs.Expecting.{start, ended, next_step, Reading, read_before, read_tokens, IsReadToEnd, StopsAt}
+use Rattle.query_grammar.proofs.Remainders.{tree_left, remainder_of}
+use Rattle.query_grammar.proofs.Carrying.{Reads}
+use Rattle.query_grammar.proofs.Productions.{query-reads, query-tree}
+use Rattle.query_grammar.proofs.Following.{reads-query}
+use Rattle.query_grammar.proofs.Runs.{reading_of, read-nothing, read-none, read-step, read-step-none, reads-run, run-reads, reads-append, read-front, read-last-none}
+use Rattle.query_grammar.proofs.Endings.{at_end-ended, state-ends}
 
 -- a query is read to its end, in its roles
 pub query-run : (tree : Syntax) (labelled : List Labelled) → IsQuery tree labelled → read_tokens start (tokens_of labelled) ≡ Some (reading_of labelled ended)

@@ -1,5 +1,5 @@
-use Rattle.sparql_parse.proofs.GrammarLaws.{Begins-IsSome, next_none-not_begun}
-use Rattle.sparql_parse.proofs.laws.beginnings_are_read.Goals as goal
+use Rattle.query_grammar.proofs.GrammarLaws.{Begins-IsSome, next_none-not_begun}
+use Rattle.query_grammar.proofs.laws.beginnings_are_read.Goals as goal
 
 pub returns-clause-exactly : goal.returns-clause-exactly
 returns-clause-exactly c = Begins-IsSome

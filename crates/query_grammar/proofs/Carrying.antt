@@ -2,18 +2,18 @@
 -- is read to the end of a query, so is what is before it.
 use Rattle.std.proofs.Common.{◌≡◌, ℕ, ◌⊎◌, inl, inr, List, [], ◌∷◌, Option, Some, None, refl, sym, ◌∙◌, ap, subst}
 use Rattle.query_tokens.specs.Token.{Lexeme}
-use Rattle.sparql_parse.specs.declared.terminal.Terminal.{Terminal}
-use Rattle.sparql_parse.specs.declared.syntax.Role.{Role}
-use Rattle.sparql_parse.specs.declared.syntax.Role.TheVariants as roles
-use Rattle.sparql_parse.specs.declared.expect.Expect.{Expect}
-use Rattle.sparql_parse.specs.declared.expect.State.{State}
-use Rattle.sparql_parse.specs.declared.expect.Step.{Step}
-use Rattle.sparql_parse.specs.Terminals.{terminal_of}
-use Rattle.sparql_parse.specs.Roles.{Labelled, with_role}
-use Rattle.sparql_parse.specs.Grammar.{Spelling, ◌▸◌, Nothing, Never, Maybe, Token, SomeToken, Keyword}
-use Rattle.sparql_parse.specs.Expecting.{state_of, reads, step_at, next_step, ended}
-use Rattle.sparql_parse.proofs.Remainders.{Remainder, grow, grow_keyword, remainder_of}
-use Rattle.sparql_parse.proofs.Weakenings.{Reads-as}
+use Rattle.query_grammar.specs.declared.terminal.Terminal.{Terminal}
+use Rattle.query_grammar.specs.declared.syntax.Role.{Role}
+use Rattle.query_grammar.specs.declared.syntax.Role.TheVariants as roles
+use Rattle.query_grammar.specs.declared.expect.Expect.{Expect}
+use Rattle.query_grammar.specs.declared.expect.State.{State}
+use Rattle.query_grammar.specs.declared.expect.Step.{Step}
+use Rattle.query_grammar.specs.Terminals.{terminal_of}
+use Rattle.query_grammar.specs.Roles.{Labelled, with_role}
+use Rattle.query_grammar.specs.Grammar.{Spelling, ◌▸◌, Nothing, Never, Maybe, Token, SomeToken, Keyword}
+use Rattle.query_grammar.specs.Expecting.{state_of, reads, step_at, next_step, ended}
+use Rattle.query_grammar.proofs.Remainders.{Remainder, grow, grow_keyword, remainder_of}
+use Rattle.query_grammar.proofs.Weakenings.{Reads-as}
 
 abbrev pub step_of : State → Role → Step
 step_of state role = record { state = state; role = role }

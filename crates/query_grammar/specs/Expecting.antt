@@ -2,16 +2,16 @@
 -- what was read last, and how many groups are open. One function for each rule, in the order of the grammar.
 use Rattle.std.specs.Prelude.{◌≡◌, ◌≢◌, ◌⊎◌, ◌<◌, ℕ, zero, suc, List, [], ◌∷◌, Option, Some, None, option_and_then, length, take}
 use Rattle.query_tokens.specs.Token.{Lexeme}
-use Rattle.sparql_parse.specs.declared.terminal.Terminal.{Terminal}
-use Rattle.sparql_parse.specs.declared.terminal.Terminal.TheVariants as terminals
-use Rattle.sparql_parse.specs.declared.syntax.Role.{Role}
-use Rattle.sparql_parse.specs.declared.syntax.Role.TheVariants as roles
-use Rattle.sparql_parse.specs.declared.expect.Expect.{Expect}
-use Rattle.sparql_parse.specs.declared.expect.Expect.TheVariants.{Prologue, DeclaredPrefix, Namespace, Projection, Columns, MoreColumns, WhereOrGroup, Group, Block, AfterElement, AfterSubjectString, SubjectDatatype, Verb, Object, AfterObjectString, ObjectDatatype, AfterObject, AfterSemicolon, End}
-use Rattle.sparql_parse.specs.declared.expect.State.{State}
-use Rattle.sparql_parse.specs.declared.expect.Step.{Step}
-use Rattle.sparql_parse.specs.Terminals.{terminal_of}
-use Rattle.sparql_parse.specs.Roles.{Labelled, tokens_of, with_role}
+use Rattle.query_grammar.specs.declared.terminal.Terminal.{Terminal}
+use Rattle.query_grammar.specs.declared.terminal.Terminal.TheVariants as terminals
+use Rattle.query_grammar.specs.declared.syntax.Role.{Role}
+use Rattle.query_grammar.specs.declared.syntax.Role.TheVariants as roles
+use Rattle.query_grammar.specs.declared.expect.Expect.{Expect}
+use Rattle.query_grammar.specs.declared.expect.Expect.TheVariants.{Prologue, DeclaredPrefix, Namespace, Projection, Columns, MoreColumns, WhereOrGroup, Group, Block, AfterElement, AfterSubjectString, SubjectDatatype, Verb, Object, AfterObjectString, ObjectDatatype, AfterObject, AfterSemicolon, End}
+use Rattle.query_grammar.specs.declared.expect.State.{State}
+use Rattle.query_grammar.specs.declared.expect.Step.{Step}
+use Rattle.query_grammar.specs.Terminals.{terminal_of}
+use Rattle.query_grammar.specs.Roles.{Labelled, tokens_of, with_role}
 
 abbrev pub state_of : Expect → ℕ → State
 state_of expect groups = record { expect = expect; groups = groups }

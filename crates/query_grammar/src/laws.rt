@@ -1,11 +1,11 @@
 // Laws between the grammar and the push parser. The calls do nothing: their contracts are the laws.
 ghost use Rattle.std.specs.Prelude.{◌≡◌, ◌↔◌, ◌++◌, ◌∷◌, ◌⊎◌, [], ℕ, IsSome, List, Some, None};
 ghost use Rattle.query_tokens.specs.Token.{Lexeme};
-ghost use Rattle.sparql_parse.specs.Terminals.{terminal_of};
-ghost use Rattle.sparql_parse.specs.Roles.{Labelled, tokens_of};
-ghost use Rattle.sparql_parse.specs.Tree.{Syntax};
-ghost use Rattle.sparql_parse.specs.Grammar.{AreQuery, Begins, HasFaultAt, IsQuery};
-ghost use Rattle.sparql_parse.specs.Expecting.{
+ghost use Rattle.query_grammar.specs.Terminals.{terminal_of};
+ghost use Rattle.query_grammar.specs.Roles.{Labelled, tokens_of};
+ghost use Rattle.query_grammar.specs.Tree.{Syntax};
+ghost use Rattle.query_grammar.specs.Grammar.{AreQuery, Begins, HasFaultAt, IsQuery};
+ghost use Rattle.query_grammar.specs.Expecting.{
     IsReadToEnd, Reading, StopsAt, next_step, read_tokens, start,
 };
 

@@ -6,8 +6,8 @@ use Rattle.std.specs.Str.{str_eq_ignore_ascii_case}
 use Rattle.query_tokens.specs.declared.token.TokenKind.TheVariants as kinds
 use Rattle.query_tokens.specs.declared.token.TokenKind.{TokenKind}
 use Rattle.query_tokens.specs.Token.{Lexeme}
-use Rattle.sparql_parse.specs.declared.words.Word.{Word}
-use Rattle.sparql_parse.specs.declared.words.Word.TheVariants as words
+use Rattle.query_grammar.specs.declared.words.Word.{Word}
+use Rattle.query_grammar.specs.declared.words.Word.TheVariants as words
 
 -- the text by which a word is named
 abbrev pub word_text : Word → List ℕ
