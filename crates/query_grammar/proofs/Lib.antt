@@ -1,0 +1,9 @@
+mod Carrying
+mod Endings
+mod Examples
+mod Following
+mod GrammarLaws
+mod Productions
+mod Remainders
+mod Runs
+mod Weakenings
