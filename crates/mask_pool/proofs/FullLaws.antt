@@ -3,7 +3,8 @@ use Rattle.std.proofs.Common.{◌≡◌, ℕ, ◌-◌, ◌/◌, ◌%◌, ◌^◌
 use Rattle.std.specs.Int.{bit_at}
 use Rattle.std.proofs.lemmas.List.{get_or_past}
 use Rattle.std.proofs.lemmas.Nat.Bits.{bit_at_ones, bit_at_ones_above, bit_at-zero}
-use Rattle.mask_pool.specs.Mask.{words_for, Has}
+use Rattle.mask_pool.specs.Mask.{words_for}
+use Rattle.row_lanes.specs.Words.{Has}
 
 -- the k lowest bits are set, and no other
 low_bits : (k i : ℕ) → (bit_at (2 ^ k - 1) i ≡ 1) ↔ (i < k)

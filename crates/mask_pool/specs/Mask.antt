@@ -1,6 +1,5 @@
--- A mask: where it lies among the words of a region, and the numbers whose bit is set there.
-use Rattle.std.specs.Prelude.{◌≡◌, ℕ, ◌+◌, ◌-◌, ◌/◌, ◌%◌, ◌<◌, ◌≤◌, min, List, slice_index}
-use Rattle.std.specs.Int.{bit_at}
+-- A mask: where it lies among the words of a region. Its words are a set of numbers, as those of `row_lanes` are.
+use Rattle.std.specs.Prelude.{◌≡◌, ℕ, ◌+◌, ◌-◌, ◌/◌, ◌<◌, ◌≤◌, min}
 
 -- where a mask lies: the place of its first word, and how many bits it has
 pub record Stretch : Type 0 where
@@ -22,7 +21,3 @@ HasWord m place = (m.start ≤ place) × (place < end_of m)
 -- one of the two ends before the other begins: it reaches by 0 words past the start of the other
 abbrev pub DoNotOverlap : Stretch → Stretch → Type 0
 DoNotOverlap a b = min (end_of a - b.start) (end_of b - a.start) ≡ 0
-
--- the bit of the number n is set in the words: bit n mod 64 of word n / 64
-abbrev pub Has : List ℕ → ℕ → Type 0
-Has words n = bit_at (slice_index words (n / 64)) (n % 64) ≡ 1

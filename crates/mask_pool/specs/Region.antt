@@ -1,6 +1,7 @@
 -- What a pool of masks is seen as, the masks that are live in it, and what a change leaves as it was.
 use Rattle.std.specs.Prelude.{◌≡◌, ℕ, ◌+◌, ◌<◌, ◌≤◌, List, length, slice_range}
-use Rattle.mask_pool.specs.Mask.{Stretch, end_of, DoNotOverlap, Has}
+use Rattle.row_lanes.specs.Words.{Has}
+use Rattle.mask_pool.specs.Mask.{Stretch, end_of, DoNotOverlap}
 
 -- the words that were taken, in order, and how many are left
 pub record Region : Type 0 where

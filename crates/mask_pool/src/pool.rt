@@ -2,7 +2,8 @@
 
 ghost use Rattle.std.specs.Prelude.{◌≡◌, ◌+◌, ◌≤◌, ◌<◌, ◌↔◌, ℕ, [], IfOk, length, slice_range};
 ghost use Rattle.std.specs.Borrow.{sem};
-ghost use Rattle.mask_pool.specs.Mask.{Stretch, words_for, DoNotOverlap, Has};
+ghost use Rattle.mask_pool.specs.Mask.{Stretch, words_for, DoNotOverlap};
+ghost use Rattle.row_lanes.specs.Words.{Has};
 ghost use Rattle.mask_pool.specs.Region.{Region, room_of, IsLive, words_of, IsIn, Stays};
 ghost use Rattle.mask_pool.specs.Loan.{LendsMask, LendsWords};
 

@@ -1,7 +1,8 @@
 //! Words as a set of numbers.
 
 ghost use Rattle.std.specs.Prelude.{◌≡◌, ◌<◌, ◌↔◌, ℕ, length};
-ghost use Rattle.mask_pool.specs.Mask.{words_for, Has};
+ghost use Rattle.mask_pool.specs.Mask.{words_for};
+ghost use Rattle.row_lanes.specs.Words.{Has};
 
 /// Makes the words the set of all numbers below `bits`.
 pub fn fill(words: &mut [u64], bits: u32)
