@@ -1,4 +1,4 @@
-//! The law of what is written, for all pools.
+//! The law of what is written, for all pools, and what it is that masks overlap.
 
 ghost use Rattle.std.specs.Prelude.{◌≡◌, ◌<◌, ◌≤◌, ◌↔◌, ◌⊎◌, ℕ, List, length};
 ghost use Rattle.mask_pool.specs.Mask.{Stretch, words_for, end_of, HasWord, DoNotOverlap};
