@@ -1,5 +1,5 @@
 -- The groups that a state counts as open are the '{' that were read less the '}'.
-use Rattle.std.proofs.Common.{◌≡◌, ℕ, zero, suc, ◌+◌, ◌-◌, Bool, true, false, List, [], ◌∷◌, Option, Some, None, refl, sym, ◌∙◌, ap, subst, arith, rules}
+use Rattle.std.proofs.Common.{◌≡◌, ℕ, zero, suc, ◌+◌, Bool, true, false, List, [], ◌∷◌, Some, refl, sym, ap, arith, rules}
 use Rattle.query_tokens.specs.Token.{Lexeme}
 use Rattle.query_grammar.specs.declared.terminal.Terminal.{Terminal}
 use Rattle.query_grammar.specs.declared.terminal.Terminal.TheVariants as terminals
@@ -7,10 +7,9 @@ use Rattle.query_grammar.specs.declared.syntax.Role.{Role}
 use Rattle.query_grammar.specs.declared.expect.Expect.{Expect}
 use Rattle.query_grammar.specs.declared.expect.Expect.TheVariants as expects
 use Rattle.query_grammar.specs.declared.expect.State.{State}
-use Rattle.query_grammar.specs.declared.expect.Step.{Step}
 use Rattle.query_grammar.specs.Terminals.{terminal_of}
 use Rattle.query_grammar.specs.Roles.{Labelled, is_open, is_close, count_of, open_groups}
-use Rattle.query_grammar.specs.Expecting.{start, outside, closed, step_at, next_step, Reading, read_tokens}
+use Rattle.query_grammar.specs.Expecting.{start, closed, step_at, next_step, Reading, read_tokens}
 use Rattle.query_grammar.proofs.Carrying.{Reads}
 use Rattle.query_grammar.proofs.Following.{OnStep, on-step}
 use Rattle.query_grammar.proofs.Runs.{run-reads}
@@ -104,8 +103,8 @@ unfolding next_step
 reads-counts [] last state placed e = ap (λ (s : State). s.groups + 0) (sym e)
 reads-counts (l ∷ ls) last state placed (next, is, rest) =
     let here = on-step (step_at state.expect state.groups (terminal_of l.token))
-        (λ step. IsPlaced state.expect state.groups → IsPlaced step.state.expect step.state.groups × (step.state.groups + one (is_close step.role) ≡ state.groups + one (is_open step.role)))
-        (record { state = next; role = l.role }) is (counts state.expect state.groups (terminal_of l.token)) placed in
+    (λ step. IsPlaced state.expect state.groups → IsPlaced step.state.expect step.state.groups × (step.state.groups + one (is_close step.role) ≡ state.groups + one (is_open step.role)))
+    (record { state = next; role = l.role }) is (counts state.expect state.groups (terminal_of l.token)) placed in
     let behind : last.groups + count_of is_close ls ≡ next.groups + count_of is_open ls = reads-counts ls last next here.0 rest in
     let counted : next.groups + one (is_close l.role) ≡ state.groups + one (is_open l.role) = here.1 in
     let closes = count-cons is_close l ls (is_close l.role) refl in

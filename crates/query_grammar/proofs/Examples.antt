@@ -83,12 +83,45 @@ one_triple_labelled =
 
 one_triple_is_query : IsQuery one_triple_tree one_triple_labelled
 unfolding terminal_of
-one_triple_is_query = record { spelled =
-    (_, refl, (_, (select, (refl, refl)), (_, refl, (_, (star, (refl, refl)), (_, inr refl,
-    (_, (brace, (refl, refl)), (_, (_, (_,
-        (_, (refl, refl), (_, (_, (refl, refl), (_, (refl, refl), refl)), none _)), inr refl), refl),
-    (end_brace, (refl, refl)))))))))
-  }
+one_triple_is_query = record {
+  spelled = (
+    _,
+    refl,
+    (
+      _,
+      (select, (refl, refl)),
+      (
+        _,
+        refl,
+        (
+          _,
+          (star, (refl, refl)),
+          (
+            _,
+            inr refl,
+            (
+              _,
+              (brace, (refl, refl)),
+              (
+                _,
+                (
+                  _,
+                  (
+                    _,
+                    (_, (refl, refl), (_, (_, (refl, refl), (_, (refl, refl), refl)), none _)),
+                    inr refl,
+                  ),
+                  refl,
+                ),
+                (end_brace, (refl, refl)),
+              ),
+            ),
+          ),
+        ),
+      ),
+    ),
+  );
+}
 
 -- the push parser reads it to its end, in these roles
 one_triple_is_read : read_tokens start (tokens_of one_triple_labelled) ≡ Some (record { labelled = one_triple_labelled; state = ended })
@@ -97,10 +130,12 @@ one_triple_is_read = refl
 
 -- without the last brace it stands behind an object, with one group open
 an_open_group : read_tokens start (select ∷ star ∷ brace ∷ s ∷ p ∷ o ∷ []) ≡
-    Some (record { labelled =
-        with_role roles.Keyword select ∷ with_role roles.AllColumns star ∷ with_role roles.Open brace ∷
-        with_role roles.Subject s ∷ with_role roles.Verb p ∷ with_role roles.Object o ∷ [];
-        state = state_of expects.AfterObject 1 })
+    Some (record {
+      labelled =
+          with_role roles.Keyword select ∷ with_role roles.AllColumns star ∷ with_role roles.Open brace ∷
+          with_role roles.Subject s ∷ with_role roles.Verb p ∷ with_role roles.Object o ∷ [];
+      state = state_of expects.AfterObject 1;
+    })
 unfolding read_tokens next_step terminal_of
 an_open_group = refl
 

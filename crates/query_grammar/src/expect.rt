@@ -1,11 +1,30 @@
 // What may come next in a query: the grammar as a push parser.
 ghost use Rattle.std.specs.Prelude.{◌≡◌, ◌+◌, ◌^◌, ◌<◌, ◌↔◌, IsTrue};
 ghost use Rattle.query_grammar.specs.Expecting.{
-    after_element_step, after_object_step, after_object_string_step, after_objects_step,
-    after_semicolon_step, after_subject_string_step, block_step, closed, columns_step,
-    datatype_step, declared_prefix_step, element_step, group_step, more_columns_step,
-    namespace_step, next_step, object_step, outside, projection_step, prologue_step, reads, start,
-    verb_step, where_step,
+  after_element_step,
+  after_object_step,
+  after_object_string_step,
+  after_objects_step,
+  after_semicolon_step,
+  after_subject_string_step,
+  block_step,
+  closed,
+  columns_step,
+  datatype_step,
+  declared_prefix_step,
+  element_step,
+  group_step,
+  more_columns_step,
+  namespace_step,
+  next_step,
+  object_step,
+  outside,
+  projection_step,
+  prologue_step,
+  reads,
+  start,
+  verb_step,
+  where_step,
 };
 
 use crate::syntax::Role;
@@ -77,7 +96,10 @@ impl State {
     pub fn start() -> State
         ensures { result ≡ start }
     {
-        State { expect: Expect::Prologue, groups: 0 }
+        State {
+            expect: Expect::Prologue,
+            groups: 0,
+        }
     }
 
     /// Whether the tokens are a query: nothing more is expected.
@@ -92,7 +114,10 @@ impl State {
 fn read(role: Role, expect: Expect, groups: usize) -> Option<Step>
     ensures { result ≡ reads role expect groups }
 {
-    Some(Step { state: State { expect, groups }, role })
+    Some(Step {
+        state: State { expect, groups },
+        role,
+    })
 }
 
 // `prologue ::= ('PREFIX' prefix IRI)*`, and SELECT behind it
@@ -183,9 +208,15 @@ fn behind_close(groups: usize) -> State
     ensures { result ≡ closed groups }
 {
     if groups < 2 {
-        State { expect: Expect::End, groups: 0 }
+        State {
+            expect: Expect::End,
+            groups: 0,
+        }
     } else {
-        State { expect: Expect::AfterElement, groups: groups - 1 }
+        State {
+            expect: Expect::AfterElement,
+            groups: groups - 1,
+        }
     }
 }
 
@@ -197,7 +228,10 @@ fn element(groups: usize, terminal: Terminal) -> Option<Step>
     match terminal {
         Terminal::OptionalWord => read(Role::Optional, Expect::Group, groups),
         Terminal::Open => read(Role::Open, Expect::Block, groups + 1),
-        Terminal::Close => Some(Step { state: behind_close(groups), role: Role::Close }),
+        Terminal::Close => Some(Step {
+            state: behind_close(groups),
+            role: Role::Close,
+        }),
         _ => None,
     }
 }
@@ -235,11 +269,8 @@ fn verb(groups: usize, terminal: Terminal) -> Option<Step>
     ensures { result ≡ verb_step groups terminal }
 {
     match terminal {
-        Terminal::Variable
-        | Terminal::Iri
-        | Terminal::Prefixed
-        | Terminal::Prefix
-        | Terminal::A => read(Role::Verb, Expect::Object, groups),
+        Terminal::Variable | Terminal::Iri | Terminal::Prefixed | Terminal::Prefix | Terminal::A =>
+            read(Role::Verb, Expect::Object, groups),
         _ => None,
     }
 }
@@ -324,11 +355,8 @@ fn after_semicolon(groups: usize, terminal: Terminal) -> Option<Step>
     ensures { result ≡ after_semicolon_step groups terminal }
 {
     match terminal {
-        Terminal::Variable
-        | Terminal::Iri
-        | Terminal::Prefixed
-        | Terminal::Prefix
-        | Terminal::A => verb(groups, terminal),
+        Terminal::Variable | Terminal::Iri | Terminal::Prefixed | Terminal::Prefix | Terminal::A =>
+            verb(groups, terminal),
         _ => after_objects(groups, terminal),
     }
 }

@@ -6,7 +6,12 @@ ghost use Rattle.query_grammar.specs.Roles.{Labelled, open_groups, tokens_of};
 ghost use Rattle.query_grammar.specs.Tree.{Syntax};
 ghost use Rattle.query_grammar.specs.Grammar.{AreQuery, Begins, HasFaultAt, IsQuery};
 ghost use Rattle.query_grammar.specs.Expecting.{
-    IsReadToEnd, Reading, StopsAt, next_step, read_tokens, start,
+  IsReadToEnd,
+  Reading,
+  StopsAt,
+  next_step,
+  read_tokens,
+  start,
 };
 
 /// The push parser reads exactly the queries of the grammar to their end, and gives each token the role
