@@ -1,31 +1,6 @@
 // What may come next in a query: the grammar as a push parser.
 ghost use Rattle.std.specs.Prelude.{◌≡◌, ◌+◌, ◌^◌, ◌<◌, ◌↔◌, IsTrue};
-ghost use Rattle.query_grammar.specs.Expecting.{
-  after_element_step,
-  after_object_step,
-  after_object_string_step,
-  after_objects_step,
-  after_semicolon_step,
-  after_subject_string_step,
-  block_step,
-  closed,
-  columns_step,
-  datatype_step,
-  declared_prefix_step,
-  element_step,
-  group_step,
-  more_columns_step,
-  namespace_step,
-  next_step,
-  object_step,
-  outside,
-  projection_step,
-  prologue_step,
-  reads,
-  start,
-  verb_step,
-  where_step,
-};
+ghost use Rattle.query_grammar.specs.Expecting as expecting;
 
 use crate::syntax::Role;
 use crate::terminal::Terminal;
@@ -94,7 +69,7 @@ pub struct Step {
 impl State {
     /// Where a query stands before its first token.
     pub fn start() -> State
-        ensures { result ≡ start }
+        ensures { result ≡ expecting.start }
     {
         State {
             expect: Expect::Prologue,
@@ -112,7 +87,7 @@ impl State {
 
 // A token that is read in this role.
 fn read(role: Role, expect: Expect, groups: usize) -> Option<Step>
-    ensures { result ≡ reads role expect groups }
+    ensures { result ≡ expecting.reads role expect groups }
 {
     Some(Step {
         state: State { expect, groups },
@@ -122,7 +97,7 @@ fn read(role: Role, expect: Expect, groups: usize) -> Option<Step>
 
 // `prologue ::= ('PREFIX' prefix IRI)*`, and SELECT behind it
 fn prologue(groups: usize, terminal: Terminal) -> Option<Step>
-    ensures { result ≡ prologue_step groups terminal }
+    ensures { result ≡ expecting.prologue_step groups terminal }
 {
     match terminal {
         Terminal::PrefixWord => read(Role::Keyword, Expect::DeclaredPrefix, groups),
@@ -132,7 +107,7 @@ fn prologue(groups: usize, terminal: Terminal) -> Option<Step>
 }
 
 fn declared_prefix(groups: usize, terminal: Terminal) -> Option<Step>
-    ensures { result ≡ declared_prefix_step groups terminal }
+    ensures { result ≡ expecting.declared_prefix_step groups terminal }
 {
     match terminal {
         Terminal::Prefix => read(Role::Declared, Expect::Namespace, groups),
@@ -141,7 +116,7 @@ fn declared_prefix(groups: usize, terminal: Terminal) -> Option<Step>
 }
 
 fn namespace(groups: usize, terminal: Terminal) -> Option<Step>
-    ensures { result ≡ namespace_step groups terminal }
+    ensures { result ≡ expecting.namespace_step groups terminal }
 {
     match terminal {
         Terminal::Iri => read(Role::Namespace, Expect::Prologue, groups),
@@ -151,7 +126,7 @@ fn namespace(groups: usize, terminal: Terminal) -> Option<Step>
 
 // `variable+ | '*'`
 fn columns(groups: usize, terminal: Terminal) -> Option<Step>
-    ensures { result ≡ columns_step groups terminal }
+    ensures { result ≡ expecting.columns_step groups terminal }
 {
     match terminal {
         Terminal::Variable => read(Role::Column, Expect::MoreColumns, groups),
@@ -162,7 +137,7 @@ fn columns(groups: usize, terminal: Terminal) -> Option<Step>
 
 // `'DISTINCT'? (variable+ | '*')`
 fn projection(groups: usize, terminal: Terminal) -> Option<Step>
-    ensures { result ≡ projection_step groups terminal }
+    ensures { result ≡ expecting.projection_step groups terminal }
 {
     match terminal {
         Terminal::DistinctWord => read(Role::Distinct, Expect::Columns, groups),
@@ -173,7 +148,7 @@ fn projection(groups: usize, terminal: Terminal) -> Option<Step>
 // The `{` of a group.
 fn group(groups: usize, terminal: Terminal) -> Option<Step>
     requires { groups + 1 < 2 ^ 64 }
-    ensures { result ≡ group_step groups terminal }
+    ensures { result ≡ expecting.group_step groups terminal }
 {
     match terminal {
         Terminal::Open => read(Role::Open, Expect::Block, groups + 1),
@@ -184,7 +159,7 @@ fn group(groups: usize, terminal: Terminal) -> Option<Step>
 // `'WHERE'? group`
 fn where_or_group(groups: usize, terminal: Terminal) -> Option<Step>
     requires { groups + 1 < 2 ^ 64 }
-    ensures { result ≡ where_step groups terminal }
+    ensures { result ≡ expecting.where_step groups terminal }
 {
     match terminal {
         Terminal::WhereWord => read(Role::Keyword, Expect::Group, groups),
@@ -195,7 +170,7 @@ fn where_or_group(groups: usize, terminal: Terminal) -> Option<Step>
 // `variable* 'WHERE'? group`
 fn more_columns(groups: usize, terminal: Terminal) -> Option<Step>
     requires { groups + 1 < 2 ^ 64 }
-    ensures { result ≡ more_columns_step groups terminal }
+    ensures { result ≡ expecting.more_columns_step groups terminal }
 {
     match terminal {
         Terminal::Variable => read(Role::Column, Expect::MoreColumns, groups),
@@ -205,7 +180,7 @@ fn more_columns(groups: usize, terminal: Terminal) -> Option<Step>
 
 // Behind a `}`, before which so many groups are open.
 fn behind_close(groups: usize) -> State
-    ensures { result ≡ closed groups }
+    ensures { result ≡ expecting.closed groups }
 {
     if groups < 2 {
         State {
@@ -223,7 +198,7 @@ fn behind_close(groups: usize) -> State
 // `element ::= 'OPTIONAL' group | group`, or the end of the group
 fn element(groups: usize, terminal: Terminal) -> Option<Step>
     requires { groups + 1 < 2 ^ 64 }
-    ensures { result ≡ element_step groups terminal }
+    ensures { result ≡ expecting.element_step groups terminal }
 {
     match terminal {
         Terminal::OptionalWord => read(Role::Optional, Expect::Group, groups),
@@ -239,7 +214,7 @@ fn element(groups: usize, terminal: Terminal) -> Option<Step>
 // `block? (element '.'? block?)*`, where a block begins with a subject
 fn block(groups: usize, terminal: Terminal) -> Option<Step>
     requires { groups + 1 < 2 ^ 64 }
-    ensures { result ≡ block_step groups terminal }
+    ensures { result ≡ expecting.block_step groups terminal }
 {
     match terminal {
         Terminal::Variable
@@ -256,7 +231,7 @@ fn block(groups: usize, terminal: Terminal) -> Option<Step>
 // `'.'? block? (element '.'? block?)*`
 fn after_element(groups: usize, terminal: Terminal) -> Option<Step>
     requires { groups + 1 < 2 ^ 64 }
-    ensures { result ≡ after_element_step groups terminal }
+    ensures { result ≡ expecting.after_element_step groups terminal }
 {
     match terminal {
         Terminal::Stop => read(Role::Keyword, Expect::Block, groups),
@@ -266,7 +241,7 @@ fn after_element(groups: usize, terminal: Terminal) -> Option<Step>
 
 // `verb ::= variable | iri | 'a'`
 fn verb(groups: usize, terminal: Terminal) -> Option<Step>
-    ensures { result ≡ verb_step groups terminal }
+    ensures { result ≡ expecting.verb_step groups terminal }
 {
     match terminal {
         Terminal::Variable | Terminal::Iri | Terminal::Prefixed | Terminal::Prefix | Terminal::A =>
@@ -277,7 +252,7 @@ fn verb(groups: usize, terminal: Terminal) -> Option<Step>
 
 // `node ::= variable | iri | literal`, as an object
 fn object(groups: usize, terminal: Terminal) -> Option<Step>
-    ensures { result ≡ object_step groups terminal }
+    ensures { result ≡ expecting.object_step groups terminal }
 {
     match terminal {
         Terminal::Variable
@@ -293,7 +268,7 @@ fn object(groups: usize, terminal: Terminal) -> Option<Step>
 
 // The iri of a datatype, and what is expected behind it.
 fn datatype(behind: Expect, groups: usize, terminal: Terminal) -> Option<Step>
-    ensures { result ≡ datatype_step behind groups terminal }
+    ensures { result ≡ expecting.datatype_step behind groups terminal }
 {
     match terminal {
         Terminal::Iri | Terminal::Prefixed | Terminal::Prefix => {
@@ -305,7 +280,7 @@ fn datatype(behind: Expect, groups: usize, terminal: Terminal) -> Option<Step>
 
 // `(tag | '^^' iri)?` behind a string that is a subject
 fn after_subject_string(groups: usize, terminal: Terminal) -> Option<Step>
-    ensures { result ≡ after_subject_string_step groups terminal }
+    ensures { result ≡ expecting.after_subject_string_step groups terminal }
 {
     match terminal {
         Terminal::Tag => read(Role::Tag, Expect::Verb, groups),
@@ -317,7 +292,7 @@ fn after_subject_string(groups: usize, terminal: Terminal) -> Option<Step>
 // `(';' (verb objects)?)*`, and `('.' block?)?` behind it
 fn after_objects(groups: usize, terminal: Terminal) -> Option<Step>
     requires { groups + 1 < 2 ^ 64 }
-    ensures { result ≡ after_objects_step groups terminal }
+    ensures { result ≡ expecting.after_objects_step groups terminal }
 {
     match terminal {
         Terminal::Semicolon => read(Role::Keyword, Expect::AfterSemicolon, groups),
@@ -329,7 +304,7 @@ fn after_objects(groups: usize, terminal: Terminal) -> Option<Step>
 // `(',' node)*`
 fn after_object(groups: usize, terminal: Terminal) -> Option<Step>
     requires { groups + 1 < 2 ^ 64 }
-    ensures { result ≡ after_object_step groups terminal }
+    ensures { result ≡ expecting.after_object_step groups terminal }
 {
     match terminal {
         Terminal::Comma => read(Role::Keyword, Expect::Object, groups),
@@ -340,7 +315,7 @@ fn after_object(groups: usize, terminal: Terminal) -> Option<Step>
 // `(tag | '^^' iri)?` behind a string that is an object
 fn after_object_string(groups: usize, terminal: Terminal) -> Option<Step>
     requires { groups + 1 < 2 ^ 64 }
-    ensures { result ≡ after_object_string_step groups terminal }
+    ensures { result ≡ expecting.after_object_string_step groups terminal }
 {
     match terminal {
         Terminal::Tag => read(Role::Tag, Expect::AfterObject, groups),
@@ -352,7 +327,7 @@ fn after_object_string(groups: usize, terminal: Terminal) -> Option<Step>
 // `(verb objects)?` behind a `;`
 fn after_semicolon(groups: usize, terminal: Terminal) -> Option<Step>
     requires { groups + 1 < 2 ^ 64 }
-    ensures { result ≡ after_semicolon_step groups terminal }
+    ensures { result ≡ expecting.after_semicolon_step groups terminal }
 {
     match terminal {
         Terminal::Variable | Terminal::Iri | Terminal::Prefixed | Terminal::Prefix | Terminal::A =>
@@ -366,7 +341,7 @@ fn after_semicolon(groups: usize, terminal: Terminal) -> Option<Step>
 #[tactic(auto, unfolding(crate::specs::Expecting::next_step))]
 pub fn next(state: State, terminal: Terminal) -> Option<Step>
     requires { state.groups + 1 < 2 ^ 64 }
-    ensures { result ≡ next_step state terminal }
+    ensures { result ≡ expecting.next_step state terminal }
 {
     let groups = state.groups;
     match state.expect {
