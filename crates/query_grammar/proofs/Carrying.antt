@@ -1,6 +1,6 @@
 -- Runs of the push parser over what a symbol of the grammar spells, from the right: where what is behind the symbol
 -- is read to the end of a query, so is what is before it.
-use Rattle.std.proofs.Common.{◌≡◌, ℕ, ◌⊎◌, inl, inr, List, [], ◌∷◌, Option, Some, None, refl, sym, ◌∙◌, ap, subst}
+use Rattle.std.proofs.Common.{◌≡◌, ℕ, ◌⊎◌, inl, inr, List, [], ◌∷◌, Option, Some, sym, ◌∙◌, ap, subst}
 use Rattle.query_tokens.specs.Token.{Lexeme}
 use Rattle.query_grammar.specs.declared.terminal.Terminal.{Terminal}
 use Rattle.query_grammar.specs.declared.syntax.Role.{Role}
@@ -46,8 +46,10 @@ pub c-then : {A B : Spelling} {P Q R : List Labelled → Type 0} → Carries A P
 c-then first second = record { carry = λ from to (middle, a, b) holds. first.carry from middle a (second.carry middle to b holds) }
 
 pub c-or : {A B : Spelling} {P Q : List Labelled → Type 0} → Carries A P Q → Carries B P Q → Carries (λ from to. A from to ⊎ B from to) P Q
-c-or first second = record { carry = λ from to either holds.
-    elim either [ inl a ↦ first.carry from to a holds | inr b ↦ second.carry from to b holds ] }
+c-or first second = record {
+  carry = λ from to either holds.
+      elim either [ inl a ↦ first.carry from to a holds | inr b ↦ second.carry from to b holds ];
+}
 
 pub c-before : {A : Spelling} {P Q R : List Labelled → Type 0} → ((ls : List Labelled) → P ls → R ls) → Carries A P Q → Carries A R Q
 c-before change carries = record { carry = λ from to a holds. change from (carries.carry from to a holds) }
@@ -85,7 +87,7 @@ token-at : (rule : Terminal → Option Step) (terminal : Terminal) (role : Role)
     (from to : List Labelled) → Token terminal role token from to → At next left to → On rule (grow role terminal token left) from
 token-at rule terminal role token next left is from to (e, split) behind =
     let on : On rule (grow role terminal token left) (with_role role token ∷ to) =
-        record { reads = (next, ap rule e ∙ is, behind.reads); grown = token-grown role terminal token left to e behind.grown } in
+    record { reads = (next, ap rule e ∙ is, behind.reads); grown = token-grown role terminal token left to e behind.grown } in
     subst (λ ls. On rule (grow role terminal token left) ls) (sym split) on
 
 -- one token

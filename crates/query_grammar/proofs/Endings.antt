@@ -1,8 +1,7 @@
 -- Each state that a run reaches has an ending: tokens that make a query of what was read.
-use Rattle.std.proofs.Common.{◌≡◌, ℕ, zero, suc, List, [], ◌∷◌, ◌++◌, Option, Some, None, refl, sym, ap, subst, codes}
+use Rattle.std.proofs.Common.{◌≡◌, ℕ, zero, suc, List, [], ◌∷◌, refl, ap, subst, codes}
 use Rattle.query_tokens.specs.declared.token.TokenKind.{TokenKind}
 use Rattle.query_tokens.specs.declared.token.TokenKind.TheVariants as kinds
-use Rattle.query_tokens.specs.Token.{Lexeme}
 use Rattle.query_grammar.specs.declared.terminal.Terminal.{Terminal}
 use Rattle.query_grammar.specs.declared.terminal.Terminal.TheVariants as terminals
 use Rattle.query_grammar.specs.declared.syntax.Role.{Role}
@@ -10,7 +9,6 @@ use Rattle.query_grammar.specs.declared.syntax.Role.TheVariants as roles
 use Rattle.query_grammar.specs.declared.expect.Expect.{Expect}
 use Rattle.query_grammar.specs.declared.expect.Expect.TheVariants as expects
 use Rattle.query_grammar.specs.declared.expect.State.{State}
-use Rattle.query_grammar.specs.declared.expect.Step.{Step}
 use Rattle.query_grammar.specs.Terminals.{terminal_of}
 use Rattle.query_grammar.specs.Roles.{Labelled, with_role}
 use Rattle.query_grammar.specs.Expecting.{state_of, start, ended, outside, closed, step_at, next_step}

@@ -1,5 +1,5 @@
 -- What a state of the push parser stands for: the symbols of the grammar that make what is left a query.
-use Rattle.std.proofs.Common.{◌≡◌, ℕ, zero, suc, inl, inr, Bool, true, false, List, [], ◌∷◌, Option, Some, None, refl, sym, ◌∙◌, ap, subst}
+use Rattle.std.proofs.Common.{◌≡◌, ℕ, zero, suc, inl, inr, List, [], ◌∷◌, Option, Some, None, refl, sym, ap, subst}
 use Rattle.query_tokens.specs.Token.{Lexeme}
 use Rattle.query_grammar.specs.declared.terminal.Terminal.{Terminal}
 use Rattle.query_grammar.specs.declared.terminal.Terminal.TheVariants as terminals
@@ -11,10 +11,10 @@ use Rattle.query_grammar.specs.declared.expect.State.{State}
 use Rattle.query_grammar.specs.declared.expect.Step.{Step}
 use Rattle.query_grammar.specs.Terminals.{terminal_of}
 use Rattle.query_grammar.specs.Roles.{Labelled, with_role}
-use Rattle.query_grammar.specs.Tree.{Node, VariableNode, IriNode, StringNode, TaggedNode, TypedNode, NumberNode, BooleanNode, TypeNode, Property, Same, Parts, NoParts, OptionalPart, NestedPart, Group, Declaration, Columns, AllColumns, Variables, Syntax}
-use Rattle.query_grammar.specs.Grammar.{Spelling, ◌▸◌, Nothing, Never, Many, none, more, Maybe, Token, SomeToken, Keyword, IsIri, IsNode, IsVerb, AreMoreObjects, AreObjects, IsProperty, AreMoreProperties, AreProperties, IsSame, AreMoreSames, IsBlock, InBraces, AreParts, IsGroup, AreMoreVariables, AreVariables, AreColumns, IsDistinct, IsDeclaration, IsPrologue, SpellsQuery, IsQuery}
-use Rattle.query_grammar.specs.Expecting.{prologue_step, declared_prefix_step, namespace_step, projection_step, columns_step, more_columns_step, where_step, group_step, block_step, element_step, after_element_step, verb_step, object_step, datatype_step, after_subject_string_step, after_objects_step, after_object_step, after_object_string_step, after_semicolon_step, step_at, next_step, outside, start, ended}
-use Rattle.query_grammar.proofs.Remainders.{main_group, with_column, with_declaration, open_group, as_optional, Suffix, NoSuffix, TagSuffix, TypeSuffix, Head, head_of, no_head, Remainder, left, group_of, property_of, same_of, declaration_of, string_node, nothing_left, grow, remainder_of, tree_left}
+use Rattle.query_grammar.specs.Tree.{Node, VariableNode, IriNode, NumberNode, BooleanNode, TypeNode, Property, Same, Parts, NoParts, OptionalPart, NestedPart, Group, Declaration, Columns, AllColumns, Variables}
+use Rattle.query_grammar.specs.Grammar.{Spelling, ◌▸◌, Nothing, Never, Many, none, more, Maybe, Token, SomeToken, Keyword, IsIri, IsNode, IsVerb, AreMoreObjects, AreObjects, IsProperty, AreMoreProperties, AreProperties, AreMoreSames, IsBlock, InBraces, AreParts, IsGroup, AreMoreVariables, AreColumns, IsDistinct, IsPrologue, IsQuery}
+use Rattle.query_grammar.specs.Expecting.{step_at, next_step, outside, start, ended}
+use Rattle.query_grammar.proofs.Remainders.{main_group, with_column, with_declaration, open_group, as_optional, Suffix, NoSuffix, TagSuffix, TypeSuffix, Remainder, group_of, property_of, same_of, string_node, nothing_left, grow, remainder_of, tree_left}
 use Rattle.query_grammar.proofs.Carrying.{Reads}
 
 -- behind the '}' of a group, round which n are open: what is left of each
@@ -117,7 +117,7 @@ OnStep (Some step) claim = claim step
 abbrev Grows : Expect → ℕ → Terminal → Lexeme → Remainder → List Labelled → Type 0
 Grows expect n terminal token r ls =
     OnStep (step_at expect n terminal) (λ step. Follows step.state.expect step.state.groups r ls →
-        Follows expect n (grow step.role terminal token r) (with_role step.role token ∷ ls))
+    Follows expect n (grow step.role terminal token r) (with_role step.role token ∷ ls))
 
 -- a token in front, where it is of its terminal symbol
 abbrev Front : Terminal → Lexeme → Type 0
@@ -457,6 +457,7 @@ follows-query r (NestedPart block parts next rest) ls (m1, a, (m2, b, (m3, c, (m
 
 -- tokens that are read from the start to the end of a query are a query
 pub reads-query : (labelled : List Labelled) → Reads ended start labelled → IsQuery (tree_left (remainder_of labelled)) labelled
-reads-query labelled reads = record { spelled =
-    follows-query (remainder_of labelled) (remainder_of labelled).parts labelled (read-follows labelled start reads)
-  }
+reads-query labelled reads = record {
+  spelled =
+      follows-query (remainder_of labelled) (remainder_of labelled).parts labelled (read-follows labelled start reads);
+}

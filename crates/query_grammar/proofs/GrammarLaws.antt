@@ -1,5 +1,5 @@
 -- The grammar and the push parser: queries are what is read to its end, and the fault stands where the run stops.
-use Rattle.std.proofs.Common.{◌≡◌, ◌≢◌, ℕ, suc, ◌<◌, ◌≤◌, ◌⊎◌, inl, inr, ◌↔◌, List, [], ◌∷◌, ◌++◌, length, take, drop, map, Option, Some, None, IsSome, is_some, true, refl, sym, ◌∙◌, ap, subst, arith}
+use Rattle.std.proofs.Common.{◌≡◌, ◌≢◌, ℕ, suc, ◌<◌, ◌≤◌, ◌⊎◌, inl, inr, ◌↔◌, List, [], ◌∷◌, ◌++◌, length, take, drop, Option, Some, None, IsSome, is_some, refl, sym, ◌∙◌, ap, subst, arith}
 use Rattle.std.proofs.lemmas.List.{map-append, take_all, length-take-le, take-append-le, take-append-drop}
 use Rattle.query_tokens.specs.Token.{Lexeme}
 use Rattle.query_grammar.specs.declared.expect.Expect.{Expect}
@@ -7,7 +7,7 @@ use Rattle.query_grammar.specs.declared.expect.Expect.TheVariants as expects
 use Rattle.query_grammar.specs.declared.expect.Step.{Step}
 use Rattle.query_grammar.specs.declared.expect.State.{State}
 use Rattle.query_grammar.specs.Terminals.{terminal_of}
-use Rattle.query_grammar.specs.Roles.{Labelled, tokens_of, with_role}
+use Rattle.query_grammar.specs.Roles.{Labelled, tokens_of}
 use Rattle.query_grammar.specs.Tree.{Syntax}
 use Rattle.query_grammar.specs.Grammar.{IsQuery, Begins, AreQuery, HasFaultAt}
 use Rattle.query_grammar.specs.Expecting.{start, ended, next_step, Reading, read_before, read_tokens, IsReadToEnd, StopsAt}
@@ -59,9 +59,14 @@ read-Begins tokens reading read =
     let rest = state-ends reading.labelled reading.state run.reads in
     let all = reads-append reading.labelled rest.0 ended reading.state start run.reads rest.1 in
     let e : tokens_of (reading.labelled ++ rest.0) ≡ tokens ++ tokens_of rest.0 =
-        map-append (λ (l : Labelled). l.token) reading.labelled rest.0 ∙ ap (λ ts. ts ++ tokens_of rest.0) run.tokens_are in
-    record { more = tokens_of rest.0; tree = tree_left (remainder_of (reading.labelled ++ rest.0)); labelled = reading.labelled ++ rest.0;
-        is_query = reads-query (reading.labelled ++ rest.0) all; tokens_are = e }
+    map-append (λ (l : Labelled). l.token) reading.labelled rest.0 ∙ ap (λ ts. ts ++ tokens_of rest.0) run.tokens_are in
+    record {
+      more = tokens_of rest.0;
+      tree = tree_left (remainder_of (reading.labelled ++ rest.0));
+      labelled = reading.labelled ++ rest.0;
+      is_query = reads-query (reading.labelled ++ rest.0) all;
+      tokens_are = e;
+    }
 
 -- tokens that are read, and at whose end nothing more is expected, are a query
 pub read-AreQuery : (tokens : List Lexeme) (reading : Reading) → read_tokens start tokens ≡ Some reading → reading.state.expect ≡ expects.End → AreQuery tokens
@@ -97,9 +102,14 @@ whole tokens i e = let le : length tokens ≤ i = omega arith in take_all i toke
 pub HasFaultAt-StopsAt : (tokens : List Lexeme) (i : ℕ) → HasFaultAt tokens i → StopsAt tokens i
 HasFaultAt-StopsAt tokens i has =
     let read = Begins-read (take i tokens) has.before in
-    record { reading = read.0; before = read.1; stops = elim has.fault [
-        inl in_tokens ↦ inl (in_tokens.0, not_begun-none (take (suc i) tokens) in_tokens.1)
-      | inr at_end ↦ inr (at_end.0, λ done. at_end.1 (read-AreQuery tokens read.0 (ap (read_tokens start) (sym (whole tokens i at_end.0)) ∙ read.1) done)) ] }
+    record {
+      reading = read.0;
+      before = read.1;
+      stops = elim has.fault [
+        | inl in_tokens ↦ inl (in_tokens.0, not_begun-none (take (suc i) tokens) in_tokens.1)
+        | inr at_end ↦ inr (at_end.0, λ done. at_end.1 (read-AreQuery tokens read.0 (ap (read_tokens start) (sym (whole tokens i at_end.0)) ∙ read.1) done))
+      ];
+    }
 
 ended-expect : (labelled : List Labelled) (reading : Reading) (result : Option Reading) → result ≡ Some reading → result ≡ Some (reading_of labelled ended) → reading.state.expect ≡ expects.End
 ended-expect labelled reading result a b =
@@ -107,11 +117,18 @@ ended-expect labelled reading result a b =
 
 pub StopsAt-HasFaultAt : (tokens : List Lexeme) (i : ℕ) → StopsAt tokens i → HasFaultAt tokens i
 StopsAt-HasFaultAt tokens i stop =
-    record { before = read-Begins (take i tokens) stop.reading stop.before; fault = elim stop.stops [
-        inl in_tokens ↦ inl (in_tokens.0, none-Begins (take (suc i) tokens) in_tokens.1)
-      | inr at_end ↦ inr (at_end.0, λ query. at_end.1 (
-            let read = AreQuery-read tokens query in
-            ended-expect read.0 stop.reading (read_tokens start tokens) (ap (read_tokens start) (sym (whole tokens i at_end.0)) ∙ stop.before) read.1)) ] }
+    record {
+      before = read-Begins (take i tokens) stop.reading stop.before;
+      fault = elim stop.stops [
+        | inl in_tokens ↦ inl (in_tokens.0, none-Begins (take (suc i) tokens) in_tokens.1)
+        | inr at_end ↦ inr (
+          at_end.0,
+          λ query. at_end.1 (
+              let read = AreQuery-read tokens query in
+              ended-expect read.0 stop.reading (read_tokens start tokens) (ap (read_tokens start) (sym (whole tokens i at_end.0)) ∙ stop.before) read.1),
+        )
+      ];
+    }
 
 some-IsSome : {A : Type 0} (o : Option A) (x : A) → o ≡ Some x → IsSome o
 some-IsSome o x e = ap (λ p. is_some p) e
@@ -121,9 +138,10 @@ IsSome-some (Some x) is = (x, refl)
 IsSome-some None is = cc
 
 pub Begins-IsSome : (tokens : List Lexeme) → Begins tokens ↔ IsSome (read_tokens start tokens)
-Begins-IsSome tokens =
-    (λ begins. let read = Begins-read tokens begins in some-IsSome (read_tokens start tokens) read.0 read.1,
-     λ some. let read = IsSome-some (read_tokens start tokens) some in read-Begins tokens read.0 read.1)
+Begins-IsSome tokens = (
+  λ begins. let read = Begins-read tokens begins in some-IsSome (read_tokens start tokens) read.0 read.1,
+  λ some. let read = IsSome-some (read_tokens start tokens) some in read-Begins tokens read.0 read.1,
+)
 
 -- what begins a query has fronts that begin one
 begun-front : (front back : List Lexeme) → Begins (front ++ back) → Begins front
@@ -136,7 +154,7 @@ begun-before : (tokens : List Lexeme) (k j : ℕ) → k ≤ j → j ≤ length t
 begun-before tokens k j k_below j_in begins =
     let in_front : k ≤ length (take j tokens) = rw length-take-le k_below in
     let same : take k (take j tokens) ≡ take k tokens =
-        sym (take-append-le k (take j tokens) (drop j tokens) in_front) ∙ ap (take k) (take-append-drop j tokens) in
+    sym (take-append-le k (take j tokens) (drop j tokens) in_front) ∙ ap (take k) (take-append-drop j tokens) in
     let split : Begins (take k (take j tokens) ++ drop k (take j tokens)) = subst Begins (sym (take-append-drop k (take j tokens))) begins in
     subst Begins same (begun-front (take k (take j tokens)) (drop k (take j tokens)) split)
 
@@ -147,8 +165,9 @@ no_later-fault : (tokens : List Lexeme) (i j : ℕ) → HasFaultAt tokens i → 
 no_later-fault tokens i j first later below =
     let j_in : j ≤ length tokens = in-tokens tokens j later in
     elim first.fault [
-        inl inside ↦ inside.1 (begun-before tokens (suc i) j (let le : suc i ≤ j = omega arith in le) j_in later.before)
-      | inr at_end ↦ (let e : i ≡ length tokens = at_end.0 in absurd (omega arith)) ]
+      | inl inside ↦ inside.1 (begun-before tokens (suc i) j (let le : suc i ≤ j = omega arith in le) j_in later.before)
+      | inr at_end ↦ (let e : i ≡ length tokens = at_end.0 in absurd (omega arith))
+    ]
 
 pub one-fault : (tokens : List Lexeme) (i j : ℕ) → HasFaultAt tokens i → HasFaultAt tokens j → i ≡ j
 one-fault tokens i j first other =
@@ -161,12 +180,13 @@ query-Begins tokens query = let read = AreQuery-read tokens query in read-Begins
 
 pub query-no_fault : (tokens : List Lexeme) (i : ℕ) → AreQuery tokens → ¬ HasFaultAt tokens i
 query-no_fault tokens i query has = elim has.fault [
-    inl inside ↦ (
-        let lt : suc i ≤ length tokens = (let l : i < length tokens = inside.0 in omega arith) in
-        let le : length tokens ≤ length tokens = omega arith in
-        let all : Begins (take (length tokens) tokens) = subst Begins (sym (take_all (length tokens) tokens le)) (query-Begins tokens query) in
-        inside.1 (begun-before tokens (suc i) (length tokens) lt le all))
-  | inr at_end ↦ at_end.1 query ]
+  | inl inside ↦ (
+      let lt : suc i ≤ length tokens = (let l : i < length tokens = inside.0 in omega arith) in
+      let le : length tokens ≤ length tokens = omega arith in
+      let all : Begins (take (length tokens) tokens) = subst Begins (sym (take_all (length tokens) tokens le)) (query-Begins tokens query) in
+      inside.1 (begun-before tokens (suc i) (length tokens) lt le all))
+  | inr at_end ↦ at_end.1 query
+]
 
 -- the first token that is not read from a state on, if there is one
 data FirstUnread (state : State) (tokens : List Lexeme) : Type 0 where
@@ -199,11 +219,16 @@ query-or-fault-read : (tokens : List Lexeme) → FirstUnread start tokens → Ar
 query-or-fault-read tokens (unread i reading below read none) =
     inr (i, StopsAt-HasFaultAt tokens i (record { reading = reading; before = read; stops = inl (below, none) }))
 query-or-fault-read tokens (all_read reading read) = elim (is-end reading.state.expect) [
-    inl done ↦ inl (read-AreQuery tokens reading read done)
-  | inr going ↦ inr (length tokens, StopsAt-HasFaultAt tokens (length tokens) (record {
-        reading = reading;
-        before = ap (read_tokens start) (whole tokens (length tokens) refl) ∙ read;
-        stops = inr (refl, going) })) ]
+  | inl done ↦ inl (read-AreQuery tokens reading read done)
+  | inr going ↦ inr (
+    length tokens,
+    StopsAt-HasFaultAt tokens (length tokens) (record {
+      reading = reading;
+      before = ap (read_tokens start) (whole tokens (length tokens) refl) ∙ read;
+      stops = inr (refl, going);
+    }),
+  )
+]
 
 pub query-or-fault : (tokens : List Lexeme) → AreQuery tokens ⊎ ((i : ℕ) × HasFaultAt tokens i)
 query-or-fault tokens = query-or-fault-read tokens (first-unread tokens start)

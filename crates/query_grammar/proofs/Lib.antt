@@ -1,4 +1,5 @@
 mod Carrying
+mod Depth
 mod Endings
 mod Examples
 mod Following

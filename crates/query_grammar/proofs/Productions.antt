@@ -1,14 +1,14 @@
 -- Each production of the grammar is read by its rule of the push parser, and grows its part of the tree.
-use Rattle.std.proofs.Common.{◌≡◌, ℕ, zero, suc, inl, inr, Bool, true, false, List, [], ◌∷◌, refl, ap, ◌∙◌}
+use Rattle.std.proofs.Common.{◌≡◌, ℕ, suc, Bool, true, false, List, [], ◌∷◌, refl, ap}
 use Rattle.query_tokens.specs.Token.{Lexeme}
 use Rattle.query_grammar.specs.declared.terminal.Terminal.TheVariants as terminals
 use Rattle.query_grammar.specs.declared.syntax.Role.TheVariants as roles
 use Rattle.query_grammar.specs.declared.expect.Expect.TheVariants as expects
 use Rattle.query_grammar.specs.Roles.{Labelled}
 use Rattle.query_grammar.specs.Tree.{Node, VariableNode, IriNode, StringNode, TaggedNode, TypedNode, NumberNode, BooleanNode, TypeNode, Property, Same, Parts, NoParts, OptionalPart, NestedPart, Group, Declaration, Columns, AllColumns, Variables, Syntax}
-use Rattle.query_grammar.specs.Grammar.{Spelling, ◌▸◌, Many, none, more, Maybe, Keyword, IsIri, IsNode, IsVerb, AreMoreObjects, AreObjects, IsProperty, AreMoreProperties, AreProperties, IsSame, AreMoreSames, IsBlock, InBraces, AreParts, IsGroup, AreMoreVariables, AreVariables, AreColumns, IsDistinct, IsDeclaration, IsPrologue, SpellsQuery, IsQuery}
+use Rattle.query_grammar.specs.Grammar.{◌▸◌, Many, none, more, Keyword, IsNode, IsVerb, AreMoreObjects, AreObjects, IsProperty, AreMoreProperties, AreProperties, IsSame, AreMoreSames, IsBlock, InBraces, AreParts, IsGroup, AreMoreVariables, AreVariables, AreColumns, IsDistinct, IsDeclaration, IsPrologue, SpellsQuery, IsQuery}
 use Rattle.query_grammar.specs.Expecting.{prologue_step, declared_prefix_step, namespace_step, projection_step, columns_step, more_columns_step, where_step, group_step, block_step, element_step, after_element_step, verb_step, object_step, datatype_step, after_subject_string_step, after_objects_step, after_object_step, after_object_string_step, after_semicolon_step, outside, start, ended}
-use Rattle.query_grammar.proofs.Remainders.{Suffix, NoSuffix, TagSuffix, TypeSuffix, head_of, no_head, Remainder, left, group_of, property_of, same_of, declaration_of, nothing_left, remainder_of, tree_left}
+use Rattle.query_grammar.proofs.Remainders.{Suffix, NoSuffix, TagSuffix, TypeSuffix, head_of, no_head, Remainder, left, group_of, property_of, same_of, nothing_left, remainder_of, tree_left}
 use Rattle.query_grammar.proofs.Weakenings.{columns-projection, group-where, where-more_columns, group-element, element-block, block-after_element, verb-after_string, element-after_objects, after_objects-after_object, after_object-after_string, after_objects-after_semicolon, verb-after_semicolon}
 use Rattle.query_grammar.proofs.Carrying.{Reads, On, At, Carries, c-then, c-or, c-before, c-behind, c-nothing, c-never, c-maybe, weaken, at_state, c-token-at, c-token, c-some, c-keyword}
 
@@ -141,7 +141,7 @@ more_sames-carry : (n : ℕ) (block : List Same) (q : Remainder) →
     Carries (AreMoreSames block) (On (after_objects_step n) (inside NoSuffix [] [] block q)) (On (element_step n) (inside NoSuffix [] [] [] q))
 more_sames-carry n [] q =
     c-maybe (c-behind (weaken (inside NoSuffix [] [] [] q) (element-block n))
-        (c-keyword (after_objects_step n) terminals.Stop expects.Block n (inside NoSuffix [] [] [] q) refl))
+    (c-keyword (after_objects_step n) terminals.Stop expects.Block n (inside NoSuffix [] [] [] q) refl))
     (weaken (inside NoSuffix [] [] [] q) (element-after_objects n))
 more_sames-carry n (same ∷ block) q =
     c-then (c-keyword (after_objects_step n) terminals.Stop expects.Block n (inside NoSuffix [] [] (same ∷ block) q) refl)
@@ -173,16 +173,16 @@ parts-carry n NoParts outer = c-nothing (λ ls on. on)
 parts-carry n (OptionalPart block parts next rest) outer =
     c-then (c-some terminals.OptionalWord roles.Optional (λ token. c-token (element_step (suc n)) terminals.OptionalWord roles.Optional token expects.Group (suc n) (at_parts (NestedPart block parts next rest) outer) refl))
     (c-then (c-behind (at_state expects.AfterElement (suc n) (at_block next rest outer))
-        (braces-carry (suc n) block parts next rest outer (parts-carry (suc n) parts (group_of next rest ∷ outer))))
+    (braces-carry (suc n) block parts next rest outer (parts-carry (suc n) parts (group_of next rest ∷ outer))))
     (c-then (c-maybe (c-keyword (after_element_step (suc n)) terminals.Stop expects.Block (suc n) (at_block next rest outer) refl)
-        (weaken (at_block next rest outer) (block-after_element (suc n))))
+    (weaken (at_block next rest outer) (block-after_element (suc n))))
     (c-then (block-carries (suc n) next (at_parts rest outer)) (parts-carry n rest outer))))
 parts-carry n (NestedPart block parts next rest) outer =
     c-then (c-before (weaken (at_parts (NestedPart block parts next rest) outer) (group-element (suc n)))
-        (c-behind (at_state expects.AfterElement (suc n) (at_block next rest outer))
-        (braces-carry (suc n) block parts next rest outer (parts-carry (suc n) parts (group_of next rest ∷ outer)))))
+    (c-behind (at_state expects.AfterElement (suc n) (at_block next rest outer))
+    (braces-carry (suc n) block parts next rest outer (parts-carry (suc n) parts (group_of next rest ∷ outer)))))
     (c-then (c-maybe (c-keyword (after_element_step (suc n)) terminals.Stop expects.Block (suc n) (at_block next rest outer) refl)
-        (weaken (at_block next rest outer) (block-after_element (suc n))))
+    (weaken (at_block next rest outer) (block-after_element (suc n))))
     (c-then (block-carries (suc n) next (at_parts rest outer)) (parts-carry n rest outer)))
 
 -- what is left before the group of a query, whose head is left as told
@@ -226,7 +226,7 @@ declaration-carries : (group : Group) (declaration : Declaration) (declarations 
 declaration-carries group declaration declarations distinct columns =
     c-then (c-keyword (prologue_step 0) terminals.PrefixWord expects.DeclaredPrefix 0 (at_head group (declaration ∷ declarations) distinct columns) refl)
     (c-then (c-token (declared_prefix_step 0) terminals.Prefix roles.Declared declaration.prefix expects.Namespace 0
-        (left (TypeSuffix declaration.iri) [] [] [] (NestedPart group.block group.parts [] NoParts) [] (head_of declarations distinct columns)) refl)
+    (left (TypeSuffix declaration.iri) [] [] [] (NestedPart group.block group.parts [] NoParts) [] (head_of declarations distinct columns)) refl)
     (c-token (namespace_step 0) terminals.Iri roles.Namespace declaration.iri expects.Prologue 0 (at_head group declarations distinct columns) refl))
 
 prologue-carries : (group : Group) (declarations : List Declaration) (distinct : Bool) (columns : Columns) →
@@ -242,7 +242,7 @@ query-carries tree =
     (c-then (distinct-carries tree.group tree.distinct tree.columns)
     (c-then (columns-carry tree.group tree.columns)
     (c-then (c-maybe (c-keyword (where_step 0) terminals.WhereWord expects.Group 0 (at_head tree.group [] false (Variables [])) refl)
-        (weaken (at_head tree.group [] false (Variables [])) (group-where 0)))
+    (weaken (at_head tree.group [] false (Variables [])) (group-where 0)))
     (group-carries tree.group)))))
 
 nothing-behind : At ended nothing_left []

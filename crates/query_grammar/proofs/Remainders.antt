@@ -34,8 +34,14 @@ pub record Remainder : Type 0 where
 
 abbrev pub left : Suffix → List Node → List Property → List Same → Parts → List Group → Head → Remainder
 left suffix objects properties block parts outer head = record {
-    suffix = suffix; objects = objects; properties = properties; block = block; parts = parts; outer = outer; head = head
-  }
+  suffix = suffix;
+  objects = objects;
+  properties = properties;
+  block = block;
+  parts = parts;
+  outer = outer;
+  head = head;
+}
 
 abbrev pub group_of : List Same → Parts → Group
 group_of block parts = record { block = block; parts = parts }
@@ -141,5 +147,8 @@ main_group (NestedPart block parts next rest) = group_of block parts
 -- the syntax tree of labelled tokens
 abbrev pub tree_left : Remainder → Syntax
 tree_left r = record {
-    declarations = r.head.declarations; distinct = r.head.distinct; columns = r.head.columns; group = main_group r.parts
-  }
+  declarations = r.head.declarations;
+  distinct = r.head.distinct;
+  columns = r.head.columns;
+  group = main_group r.parts;
+}

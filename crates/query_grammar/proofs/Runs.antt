@@ -1,5 +1,5 @@
 -- Runs over tokens: the run as a relation on labelled tokens, one token more, and a run over a part.
-use Rattle.std.proofs.Common.{◌≡◌, ℕ, zero, suc, List, [], ◌∷◌, ◌++◌, map, Option, Some, None, refl, sym, ◌∙◌, ap, subst}
+use Rattle.std.proofs.Common.{◌≡◌, List, [], ◌∷◌, ◌++◌, Option, Some, None, refl, sym, ◌∙◌, ap, subst}
 use Rattle.std.proofs.lemmas.List.{map-append}
 use Rattle.std.specs.Option.{option_and_then}
 use Rattle.query_tokens.specs.Token.{Lexeme}
@@ -81,7 +81,7 @@ run-cons : (state : State) (token : Lexeme) (tokens : List Lexeme) (reading : Re
     IsRun first.step.state tokens first.rest → IsRun state (token ∷ tokens) reading
 run-cons state token tokens reading first run =
     let here : IsRun state (token ∷ tokens) (read_before first.step.role token first.rest) =
-        record { reads = (first.step.state, first.is, run.reads); tokens_are = ap (λ ts. token ∷ ts) run.tokens_are } in
+    record { reads = (first.step.state, first.is, run.reads); tokens_are = ap (λ ts. token ∷ ts) run.tokens_are } in
     subst (IsRun state (token ∷ tokens)) first.whole here
 
 run-nothing : (state : State) (reading : Reading) → reading_of [] state ≡ reading → IsRun state [] reading
@@ -117,7 +117,7 @@ read-last front token state reading step read is =
     let one : Reads step.state reading.state (with_role step.role token ∷ []) = (step.state, is, refl) in
     let all = reads-append reading.labelled (with_role step.role token ∷ []) step.state reading.state state run.reads one in
     let e : tokens_of (reading.labelled ++ with_role step.role token ∷ []) ≡ front ++ token ∷ [] =
-        map-append (λ (l : Labelled). l.token) reading.labelled (with_role step.role token ∷ []) ∙ ap (λ ts. ts ++ token ∷ []) run.tokens_are in
+    map-append (λ (l : Labelled). l.token) reading.labelled (with_role step.role token ∷ []) ∙ ap (λ ts. ts ++ token ∷ []) run.tokens_are in
     ap (read_tokens state) (sym e) ∙ reads-run (reading.labelled ++ with_role step.role token ∷ []) step.state state all
 
 -- one token more, which is not read

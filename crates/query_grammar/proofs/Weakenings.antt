@@ -1,5 +1,5 @@
 -- Where one rule of the push parser takes what another leaves to it.
-use Rattle.std.proofs.Common.{◌≡◌, ℕ, Some, None, Option}
+use Rattle.std.proofs.Common.{◌≡◌, ℕ, Some, Option}
 use Rattle.query_grammar.specs.declared.terminal.Terminal.{Terminal}
 use Rattle.query_grammar.specs.declared.terminal.Terminal.TheVariants as terminals
 use Rattle.query_grammar.specs.declared.expect.Step.{Step}

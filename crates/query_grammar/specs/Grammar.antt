@@ -15,7 +15,6 @@ abbrev pub Spelling : Type 1
 Spelling = List Labelled → List Labelled → Type 0
 
 infixr 30 ◌▸◌
-
 -- one after the other
 abbrev pub ◌▸◌ : Spelling → Spelling → Spelling
 ◌▸◌ first second from to = (middle : List Labelled) × first from middle × second middle to

@@ -1,12 +1,6 @@
 // What may come next in a query: the grammar as a push parser.
 ghost use Rattle.std.specs.Prelude.{◌≡◌, ◌+◌, ◌^◌, ◌<◌, ◌↔◌, IsTrue};
-ghost use Rattle.query_grammar.specs.Expecting.{
-    after_element_step, after_object_step, after_object_string_step, after_objects_step,
-    after_semicolon_step, after_subject_string_step, block_step, closed, columns_step,
-    datatype_step, declared_prefix_step, element_step, group_step, more_columns_step,
-    namespace_step, next_step, object_step, outside, projection_step, prologue_step, reads, start,
-    verb_step, where_step,
-};
+ghost use Rattle.query_grammar.specs.Expecting as expecting;
 
 use crate::syntax::Role;
 use crate::terminal::Terminal;
@@ -75,9 +69,12 @@ pub struct Step {
 impl State {
     /// Where a query stands before its first token.
     pub fn start() -> State
-        ensures { result ≡ start }
+        ensures { result ≡ expecting.start }
     {
-        State { expect: Expect::Prologue, groups: 0 }
+        State {
+            expect: Expect::Prologue,
+            groups: 0,
+        }
     }
 
     /// Whether the tokens are a query: nothing more is expected.
@@ -90,14 +87,17 @@ impl State {
 
 // A token that is read in this role.
 fn read(role: Role, expect: Expect, groups: usize) -> Option<Step>
-    ensures { result ≡ reads role expect groups }
+    ensures { result ≡ expecting.reads role expect groups }
 {
-    Some(Step { state: State { expect, groups }, role })
+    Some(Step {
+        state: State { expect, groups },
+        role,
+    })
 }
 
 // `prologue ::= ('PREFIX' prefix IRI)*`, and SELECT behind it
 fn prologue(groups: usize, terminal: Terminal) -> Option<Step>
-    ensures { result ≡ prologue_step groups terminal }
+    ensures { result ≡ expecting.prologue_step groups terminal }
 {
     match terminal {
         Terminal::PrefixWord => read(Role::Keyword, Expect::DeclaredPrefix, groups),
@@ -107,7 +107,7 @@ fn prologue(groups: usize, terminal: Terminal) -> Option<Step>
 }
 
 fn declared_prefix(groups: usize, terminal: Terminal) -> Option<Step>
-    ensures { result ≡ declared_prefix_step groups terminal }
+    ensures { result ≡ expecting.declared_prefix_step groups terminal }
 {
     match terminal {
         Terminal::Prefix => read(Role::Declared, Expect::Namespace, groups),
@@ -116,7 +116,7 @@ fn declared_prefix(groups: usize, terminal: Terminal) -> Option<Step>
 }
 
 fn namespace(groups: usize, terminal: Terminal) -> Option<Step>
-    ensures { result ≡ namespace_step groups terminal }
+    ensures { result ≡ expecting.namespace_step groups terminal }
 {
     match terminal {
         Terminal::Iri => read(Role::Namespace, Expect::Prologue, groups),
@@ -126,7 +126,7 @@ fn namespace(groups: usize, terminal: Terminal) -> Option<Step>
 
 // `variable+ | '*'`
 fn columns(groups: usize, terminal: Terminal) -> Option<Step>
-    ensures { result ≡ columns_step groups terminal }
+    ensures { result ≡ expecting.columns_step groups terminal }
 {
     match terminal {
         Terminal::Variable => read(Role::Column, Expect::MoreColumns, groups),
@@ -137,7 +137,7 @@ fn columns(groups: usize, terminal: Terminal) -> Option<Step>
 
 // `'DISTINCT'? (variable+ | '*')`
 fn projection(groups: usize, terminal: Terminal) -> Option<Step>
-    ensures { result ≡ projection_step groups terminal }
+    ensures { result ≡ expecting.projection_step groups terminal }
 {
     match terminal {
         Terminal::DistinctWord => read(Role::Distinct, Expect::Columns, groups),
@@ -148,7 +148,7 @@ fn projection(groups: usize, terminal: Terminal) -> Option<Step>
 // The `{` of a group.
 fn group(groups: usize, terminal: Terminal) -> Option<Step>
     requires { groups + 1 < 2 ^ 64 }
-    ensures { result ≡ group_step groups terminal }
+    ensures { result ≡ expecting.group_step groups terminal }
 {
     match terminal {
         Terminal::Open => read(Role::Open, Expect::Block, groups + 1),
@@ -159,7 +159,7 @@ fn group(groups: usize, terminal: Terminal) -> Option<Step>
 // `'WHERE'? group`
 fn where_or_group(groups: usize, terminal: Terminal) -> Option<Step>
     requires { groups + 1 < 2 ^ 64 }
-    ensures { result ≡ where_step groups terminal }
+    ensures { result ≡ expecting.where_step groups terminal }
 {
     match terminal {
         Terminal::WhereWord => read(Role::Keyword, Expect::Group, groups),
@@ -170,7 +170,7 @@ fn where_or_group(groups: usize, terminal: Terminal) -> Option<Step>
 // `variable* 'WHERE'? group`
 fn more_columns(groups: usize, terminal: Terminal) -> Option<Step>
     requires { groups + 1 < 2 ^ 64 }
-    ensures { result ≡ more_columns_step groups terminal }
+    ensures { result ≡ expecting.more_columns_step groups terminal }
 {
     match terminal {
         Terminal::Variable => read(Role::Column, Expect::MoreColumns, groups),
@@ -180,24 +180,33 @@ fn more_columns(groups: usize, terminal: Terminal) -> Option<Step>
 
 // Behind a `}`, before which so many groups are open.
 fn behind_close(groups: usize) -> State
-    ensures { result ≡ closed groups }
+    ensures { result ≡ expecting.closed groups }
 {
     if groups < 2 {
-        State { expect: Expect::End, groups: 0 }
+        State {
+            expect: Expect::End,
+            groups: 0,
+        }
     } else {
-        State { expect: Expect::AfterElement, groups: groups - 1 }
+        State {
+            expect: Expect::AfterElement,
+            groups: groups - 1,
+        }
     }
 }
 
 // `element ::= 'OPTIONAL' group | group`, or the end of the group
 fn element(groups: usize, terminal: Terminal) -> Option<Step>
     requires { groups + 1 < 2 ^ 64 }
-    ensures { result ≡ element_step groups terminal }
+    ensures { result ≡ expecting.element_step groups terminal }
 {
     match terminal {
         Terminal::OptionalWord => read(Role::Optional, Expect::Group, groups),
         Terminal::Open => read(Role::Open, Expect::Block, groups + 1),
-        Terminal::Close => Some(Step { state: behind_close(groups), role: Role::Close }),
+        Terminal::Close => Some(Step {
+            state: behind_close(groups),
+            role: Role::Close,
+        }),
         _ => None,
     }
 }
@@ -205,7 +214,7 @@ fn element(groups: usize, terminal: Terminal) -> Option<Step>
 // `block? (element '.'? block?)*`, where a block begins with a subject
 fn block(groups: usize, terminal: Terminal) -> Option<Step>
     requires { groups + 1 < 2 ^ 64 }
-    ensures { result ≡ block_step groups terminal }
+    ensures { result ≡ expecting.block_step groups terminal }
 {
     match terminal {
         Terminal::Variable
@@ -222,7 +231,7 @@ fn block(groups: usize, terminal: Terminal) -> Option<Step>
 // `'.'? block? (element '.'? block?)*`
 fn after_element(groups: usize, terminal: Terminal) -> Option<Step>
     requires { groups + 1 < 2 ^ 64 }
-    ensures { result ≡ after_element_step groups terminal }
+    ensures { result ≡ expecting.after_element_step groups terminal }
 {
     match terminal {
         Terminal::Stop => read(Role::Keyword, Expect::Block, groups),
@@ -232,21 +241,18 @@ fn after_element(groups: usize, terminal: Terminal) -> Option<Step>
 
 // `verb ::= variable | iri | 'a'`
 fn verb(groups: usize, terminal: Terminal) -> Option<Step>
-    ensures { result ≡ verb_step groups terminal }
+    ensures { result ≡ expecting.verb_step groups terminal }
 {
     match terminal {
-        Terminal::Variable
-        | Terminal::Iri
-        | Terminal::Prefixed
-        | Terminal::Prefix
-        | Terminal::A => read(Role::Verb, Expect::Object, groups),
+        Terminal::Variable | Terminal::Iri | Terminal::Prefixed | Terminal::Prefix | Terminal::A =>
+            read(Role::Verb, Expect::Object, groups),
         _ => None,
     }
 }
 
 // `node ::= variable | iri | literal`, as an object
 fn object(groups: usize, terminal: Terminal) -> Option<Step>
-    ensures { result ≡ object_step groups terminal }
+    ensures { result ≡ expecting.object_step groups terminal }
 {
     match terminal {
         Terminal::Variable
@@ -262,7 +268,7 @@ fn object(groups: usize, terminal: Terminal) -> Option<Step>
 
 // The iri of a datatype, and what is expected behind it.
 fn datatype(behind: Expect, groups: usize, terminal: Terminal) -> Option<Step>
-    ensures { result ≡ datatype_step behind groups terminal }
+    ensures { result ≡ expecting.datatype_step behind groups terminal }
 {
     match terminal {
         Terminal::Iri | Terminal::Prefixed | Terminal::Prefix => {
@@ -274,7 +280,7 @@ fn datatype(behind: Expect, groups: usize, terminal: Terminal) -> Option<Step>
 
 // `(tag | '^^' iri)?` behind a string that is a subject
 fn after_subject_string(groups: usize, terminal: Terminal) -> Option<Step>
-    ensures { result ≡ after_subject_string_step groups terminal }
+    ensures { result ≡ expecting.after_subject_string_step groups terminal }
 {
     match terminal {
         Terminal::Tag => read(Role::Tag, Expect::Verb, groups),
@@ -286,7 +292,7 @@ fn after_subject_string(groups: usize, terminal: Terminal) -> Option<Step>
 // `(';' (verb objects)?)*`, and `('.' block?)?` behind it
 fn after_objects(groups: usize, terminal: Terminal) -> Option<Step>
     requires { groups + 1 < 2 ^ 64 }
-    ensures { result ≡ after_objects_step groups terminal }
+    ensures { result ≡ expecting.after_objects_step groups terminal }
 {
     match terminal {
         Terminal::Semicolon => read(Role::Keyword, Expect::AfterSemicolon, groups),
@@ -298,7 +304,7 @@ fn after_objects(groups: usize, terminal: Terminal) -> Option<Step>
 // `(',' node)*`
 fn after_object(groups: usize, terminal: Terminal) -> Option<Step>
     requires { groups + 1 < 2 ^ 64 }
-    ensures { result ≡ after_object_step groups terminal }
+    ensures { result ≡ expecting.after_object_step groups terminal }
 {
     match terminal {
         Terminal::Comma => read(Role::Keyword, Expect::Object, groups),
@@ -309,7 +315,7 @@ fn after_object(groups: usize, terminal: Terminal) -> Option<Step>
 // `(tag | '^^' iri)?` behind a string that is an object
 fn after_object_string(groups: usize, terminal: Terminal) -> Option<Step>
     requires { groups + 1 < 2 ^ 64 }
-    ensures { result ≡ after_object_string_step groups terminal }
+    ensures { result ≡ expecting.after_object_string_step groups terminal }
 {
     match terminal {
         Terminal::Tag => read(Role::Tag, Expect::AfterObject, groups),
@@ -321,14 +327,11 @@ fn after_object_string(groups: usize, terminal: Terminal) -> Option<Step>
 // `(verb objects)?` behind a `;`
 fn after_semicolon(groups: usize, terminal: Terminal) -> Option<Step>
     requires { groups + 1 < 2 ^ 64 }
-    ensures { result ≡ after_semicolon_step groups terminal }
+    ensures { result ≡ expecting.after_semicolon_step groups terminal }
 {
     match terminal {
-        Terminal::Variable
-        | Terminal::Iri
-        | Terminal::Prefixed
-        | Terminal::Prefix
-        | Terminal::A => verb(groups, terminal),
+        Terminal::Variable | Terminal::Iri | Terminal::Prefixed | Terminal::Prefix | Terminal::A =>
+            verb(groups, terminal),
         _ => after_objects(groups, terminal),
     }
 }
@@ -338,7 +341,7 @@ fn after_semicolon(groups: usize, terminal: Terminal) -> Option<Step>
 #[tactic(auto, unfolding(crate::specs::Expecting::next_step))]
 pub fn next(state: State, terminal: Terminal) -> Option<Step>
     requires { state.groups + 1 < 2 ^ 64 }
-    ensures { result ≡ next_step state terminal }
+    ensures { result ≡ expecting.next_step state terminal }
 {
     let groups = state.groups;
     match state.expect {

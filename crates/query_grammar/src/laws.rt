@@ -2,11 +2,16 @@
 ghost use Rattle.std.specs.Prelude.{◌≡◌, ◌↔◌, ◌++◌, ◌∷◌, ◌⊎◌, [], ℕ, IsSome, List, Some, None};
 ghost use Rattle.query_tokens.specs.Token.{Lexeme};
 ghost use Rattle.query_grammar.specs.Terminals.{terminal_of};
-ghost use Rattle.query_grammar.specs.Roles.{Labelled, tokens_of};
+ghost use Rattle.query_grammar.specs.Roles.{Labelled, open_groups, tokens_of};
 ghost use Rattle.query_grammar.specs.Tree.{Syntax};
 ghost use Rattle.query_grammar.specs.Grammar.{AreQuery, Begins, HasFaultAt, IsQuery};
 ghost use Rattle.query_grammar.specs.Expecting.{
-    IsReadToEnd, Reading, StopsAt, next_step, read_tokens, start,
+  IsReadToEnd,
+  Reading,
+  StopsAt,
+  next_step,
+  read_tokens,
+  start,
 };
 
 /// The push parser reads exactly the queries of the grammar to their end, and gives each token the role
@@ -41,4 +46,10 @@ pub fn the_fault_is_where_the_run_stops()
     ensures some { (tokens : List Lexeme) → AreQuery tokens ⊎ ((i : ℕ) × HasFaultAt tokens i) }
     ensures none { (tokens : List Lexeme) (i : ℕ) → AreQuery tokens → ¬ HasFaultAt tokens i }
     ensures one { (tokens : List Lexeme) (i j : ℕ) → HasFaultAt tokens i → HasFaultAt tokens j → i ≡ j }
+{}
+
+/// A state counts the groups that the tokens behind which it stands have opened and not closed.
+pub fn open_groups_are_counted()
+    ensures { (tokens : List Lexeme) (reading : Reading) →
+        read_tokens start tokens ≡ Some reading → reading.state.groups ≡ open_groups reading.labelled }
 {}

@@ -16,7 +16,11 @@ fn fault_of(alloc: Global, text: &str) -> Result<Option<usize>, Fail> {
             Some(step) => state = step.state,
         }
     }
-    if state.is_end() { Ok(None) } else { Ok(Some(text.len())) }
+    if state.is_end() {
+        Ok(None)
+    } else {
+        Ok(Some(text.len()))
+    }
 }
 
 #[test]

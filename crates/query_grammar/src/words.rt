@@ -97,23 +97,52 @@ pub enum Word {
 
 // The words, which are read without case.
 const KEYWORDS: [Word; 29] = [
-    Word::Add, Word::Ask, Word::Base, Word::Bind, Word::Clear, Word::Construct, Word::Copy,
-    Word::Create, Word::Delete, Word::Describe, Word::Drop, Word::Filter, Word::From, Word::Graph,
-    Word::Group, Word::Having, Word::Insert, Word::Limit, Word::Load, Word::Minus, Word::Move,
-    Word::Offset, Word::Order, Word::Reduced, Word::Select, Word::Service, Word::Union,
-    Word::Values, Word::With,
+    Word::Add,
+    Word::Ask,
+    Word::Base,
+    Word::Bind,
+    Word::Clear,
+    Word::Construct,
+    Word::Copy,
+    Word::Create,
+    Word::Delete,
+    Word::Describe,
+    Word::Drop,
+    Word::Filter,
+    Word::From,
+    Word::Graph,
+    Word::Group,
+    Word::Having,
+    Word::Insert,
+    Word::Limit,
+    Word::Load,
+    Word::Minus,
+    Word::Move,
+    Word::Offset,
+    Word::Order,
+    Word::Reduced,
+    Word::Select,
+    Word::Service,
+    Word::Union,
+    Word::Values,
+    Word::With,
 ];
 
 // The signs.
 const SIGNS: [Word; 9] = [
-    Word::RoundOpen, Word::SquareOpen, Word::Slash, Word::Bar, Word::Caret, Word::Plus, Word::Star,
-    Word::Question, Word::Bang,
+    Word::RoundOpen,
+    Word::SquareOpen,
+    Word::Slash,
+    Word::Bar,
+    Word::Caret,
+    Word::Plus,
+    Word::Star,
+    Word::Question,
+    Word::Bang,
 ];
 
 // The marks with which long strings begin.
-const QUOTES: [Word; 2] = [
-    Word::ThreeDouble, Word::ThreeSingle,
-];
+const QUOTES: [Word; 2] = [Word::ThreeDouble, Word::ThreeSingle];
 
 impl Word {
     /// The text by which the word is named: a keyword in upper case, a sign as it is written, `_:` for a
@@ -171,21 +200,30 @@ impl Word {
 fn keyword(text: &[u8]) -> Option<Word>
     ensures { result ≡ find (λ word. str_eq_ignore_ascii_case text.now (word_text word)) keywords }
 {
-    KEYWORDS.iter().copied().find(|word| text.eq_ignore_ascii_case(word.text().as_bytes()))
+    KEYWORDS
+        .iter()
+        .copied()
+        .find(|word| text.eq_ignore_ascii_case(word.text().as_bytes()))
 }
 
 // The sign that a text is.
 fn sign(text: &[u8]) -> Option<Word>
     ensures { result ≡ find (λ word. pointwise ◌==◌ text.now (word_text word)) signs }
 {
-    SIGNS.iter().copied().find(|word| text == word.text().as_bytes())
+    SIGNS
+        .iter()
+        .copied()
+        .find(|word| text == word.text().as_bytes())
 }
 
 // The quotation marks that a text is.
 fn quotation_marks(text: &[u8]) -> Option<Word>
     ensures { result ≡ find (λ word. pointwise ◌==◌ text.now (word_text word)) quotes }
 {
-    QUOTES.iter().copied().find(|word| text == word.text().as_bytes())
+    QUOTES
+        .iter()
+        .copied()
+        .find(|word| text == word.text().as_bytes())
 }
 
 /// The word of SPARQL 1.1 that a token is, among those that this project leaves out; `None` where the
