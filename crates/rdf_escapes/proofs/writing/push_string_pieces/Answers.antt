@@ -1,0 +1,22 @@
+use Rattle.std.proofs.Common.{◌++◌}
+use Rattle.std.specs.Prelude.{string_bytes}
+use Rattle.std.specs.Str.{chars, encode_utf8_all}
+use Rattle.bm_term.specs.Canonical.{escaped}
+use Rattle.rdf_escapes.specs.Pieces.{values}
+use Rattle.rdf_escapes.specs.Reading.{string_piece}
+use Rattle.rdf_escapes.proofs.WritingLaws.{string_step, string_end}
+use Rattle.rdf_escapes.proofs.writing.push_string_pieces.Goals as goal
+
+pub loop-c-preserved : goal.loop-c-preserved
+loop-c-preserved c = (
+  c.in-Some.ensures.utf8,
+  string_step c.args.mark (string_bytes c.loop-c.out) (string_bytes c.push_spelling.new.out) (chars c.loop-c.rest.now) (chars c.in-Some.after.now)
+      (string_bytes c.args.out.now ++ encode_utf8_all (escaped (values (string_piece c.args.mark) (chars c.args.text.now)))) c.in-Some.c
+      c.in_ok-push_spelling.ensures.ok c.in-Some.ensures.chars c.loop-c.invariant.1,
+)
+
+pub returns-clause-ok : goal.returns-clause-ok
+returns-clause-ok c =
+    string_end c.args.mark (string_bytes c.loop-c.out) (chars c.loop-c.rest.now)
+    (string_bytes c.args.out.now ++ encode_utf8_all (escaped (values (string_piece c.args.mark) (chars c.args.text.now))))
+    c.in_default.ensures.chars c.loop-c.invariant.1

@@ -1,0 +1,5 @@
+pub mod Escapes
+pub mod Iris
+pub mod Pieces
+pub mod Reading
+pub mod Strings

@@ -1,0 +1,96 @@
+// Escapes, behind their backslash.
+ghost use Rattle.std.specs.Prelude.{◌≡◌, ◌<◌, ◌^◌, ◌==◌, Option, Some, None, if◌then◌else◌, IfSome};
+ghost use Rattle.std.specs.Option.{option_map};
+ghost use Rattle.std.specs.Str.{chars, IsUtf8};
+ghost use Rattle.bm_term.specs.Classes.{is_hex};
+ghost use Rattle.rdf_escapes.specs.Escapes.{hex_value};
+ghost use Rattle.rdf_escapes.specs.Reading.{hex_digit, four_digits, eight_digits, uchar_number, read_uchar, read_escape};
+
+use bm_term::{echar_value, split_char};
+
+// HEX: the value of a digit.
+#[tactic(auto, unfolding(crate::specs::Escapes::hex_value, bm_term::specs::Classes::is_hex, bm_term::specs::Classes::is_digit))]
+fn hex_value(c: char) -> Option<u32>
+    ensures value { result ≡ (if is_hex c then Some (hex_value c) else None) }
+    ensures bound { IfSome result (λ value. value < 16) }
+{
+    match c {
+        '0'..='9' => Some(c as u32 - 0x30),
+        'A'..='F' => Some(c as u32 - 0x37),
+        'a'..='f' => Some(c as u32 - 0x57),
+        _ => None,
+    }
+}
+
+// The value of a digit in front, and the text after it.
+#[tactic(auto, unfolding(crate::specs::Reading::hex_digit))]
+fn hex_digit(text: &str) -> Option<(u32, &str)>
+    ensures chars { option_map (λ p. (p.0, chars p.1.now)) result ≡ hex_digit (chars text.now) }
+    ensures utf8 { IfSome result (λ p. IsUtf8 p.1.now) }
+    ensures bound { IfSome result (λ p. p.0 < 16) }
+{
+    let (c, rest) = split_char(text)?;
+    let value = hex_value(c)?;
+    Some((value, rest))
+}
+
+// HEX HEX HEX HEX: the number that the digits spell.
+#[tactic(auto, unfolding(crate::specs::Reading::four_digits))]
+fn four_digits(text: &str) -> Option<(u32, &str)>
+    ensures chars { option_map (λ p. (p.0, chars p.1.now)) result ≡ four_digits (chars text.now) }
+    ensures utf8 { IfSome result (λ p. IsUtf8 p.1.now) }
+    ensures bound { IfSome result (λ p. p.0 < 65536) }
+{
+    let (a, rest) = hex_digit(text)?;
+    let (b, rest) = hex_digit(rest)?;
+    let (c, rest) = hex_digit(rest)?;
+    let (d, rest) = hex_digit(rest)?;
+    Some((4096 * a + 256 * b + 16 * c + d, rest))
+}
+
+#[tactic(auto, unfolding(crate::specs::Reading::eight_digits))]
+fn eight_digits(text: &str) -> Option<(u32, &str)>
+    ensures chars { option_map (λ p. (p.0, chars p.1.now)) result ≡ eight_digits (chars text.now) }
+    ensures utf8 { IfSome result (λ p. IsUtf8 p.1.now) }
+{
+    let (high, rest) = four_digits(text)?;
+    let (low, rest) = four_digits(rest)?;
+    Some((65536 * high + low, rest))
+}
+
+// The number of a UCHAR, behind its backslash and this letter.
+#[tactic(auto, unfolding(crate::specs::Reading::uchar_number))]
+fn uchar_number(letter: char, text: &str) -> Option<(u32, &str)>
+    ensures chars { option_map (λ p. (p.0, chars p.1.now)) result ≡ uchar_number letter (chars text.now) }
+    ensures utf8 { IfSome result (λ p. IsUtf8 p.1.now) }
+{
+    match letter {
+        'u' => four_digits(text),
+        'U' => eight_digits(text),
+        _ => None,
+    }
+}
+
+// UCHAR, behind its backslash and this letter.
+#[tactic(auto, unfolding(crate::specs::Reading::read_uchar))]
+pub fn uchar(letter: char, text: &str) -> Option<(char, &str)>
+    ensures chars { option_map (λ p. (p.0, chars p.1.now)) result ≡ read_uchar letter (chars text.now) }
+    ensures utf8 { IfSome result (λ p. IsUtf8 p.1.now) }
+{
+    let (number, rest) = uchar_number(letter, text)?;
+    let c = char::from_u32(number)?;
+    Some((c, rest))
+}
+
+// ECHAR | UCHAR, behind the backslash.
+#[tactic(auto, unfolding(crate::specs::Reading::read_escape))]
+pub fn escape(text: &str) -> Option<(char, &str)>
+    ensures chars { option_map (λ p. (p.0, chars p.1.now)) result ≡ read_escape (chars text.now) }
+    ensures utf8 { IfSome result (λ p. IsUtf8 p.1.now) }
+{
+    let (letter, rest) = split_char(text)?;
+    match echar_value(letter) {
+        Some(c) => Some((c, rest)),
+        None => uchar(letter, rest),
+    }
+}
