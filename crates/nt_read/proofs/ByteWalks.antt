@@ -10,19 +10,14 @@ use Rattle.std.specs.Str.{chars, IsUtf8, all_scalars, encode_utf8_all}
 use lib.Utf8.{scalar, encode}
 use Rattle.bm_term.specs.Canonical.{escape_letter}
 use Rattle.bm_term.specs.Classes.{is_scalar}
-use Rattle.bm_term.specs.Text.{after_run, HasRest}
+use Rattle.bm_term.specs.Text.{after_run}
+use Rattle.bm_term.proofs.ByteRuns.{EndsWith}
 use Rattle.bm_term.proofs.Scalars.{scalars_back}
 use Rattle.bm_term.proofs.Spellings.{escaped_is_ascii}
 use Rattle.bm_term.proofs.TextLemmas.{after_run-split, after_run-append}
 use Rattle.bm_term.proofs.Unescaping.{encode_is_high}
 use Rattle.nt_read.specs.Found.{is_raw_char, is_raw_byte}
 use Rattle.nt_read.proofs.EscapeLaws.{is_scalar-scalar}
-
--- a text whose end has these characters
-pub record EndsWith (text end cs : List ℕ) : Type 0 where
-  pub rest : HasRest text end
-  pub utf8 : IsUtf8 end
-  pub characters : chars end ≡ cs
 
 ends_with : (text front end : List ℕ) → IsUtf8 text → chars text ≡ front ++ end → EndsWith text (encode_utf8_all end) end
 ends_with text front end utf8 split =

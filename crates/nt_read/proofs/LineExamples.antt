@@ -1,18 +1,16 @@
 -- Worked examples of lines and of escapes.
-use Rattle.std.proofs.Common.{◌≡◌, ℕ, true, refl, Some, None, List, [], ◌∷◌}
+use Rattle.std.proofs.Common.{◌≡◌, refl, Some, None, []}
 use Rattle.std.specs.Prelude.{codes}
-use Rattle.bm_term.specs.declared.triple.Triple.{Triple}
 use Rattle.bm_term.specs.Canonical.{iri, blank, tagged}
 use Rattle.bm_term.specs.Classes.{is_scalar, is_irichar, is_hex, is_digit, is_letter, is_alphanumeric, is_nt_label_first, is_nt_pn_chars, is_nt_pn_chars_u, is_pn_chars_base, is_pn_chars_more}
-use Rattle.bm_term.specs.Escapes.{echar_value}
 use Rattle.bm_term.specs.Names.{dotted_end, after_dotted_name, after_subtag, after_language_tag}
 use Rattle.bm_term.specs.Repetition.{after_pieces}
 use Rattle.bm_term.specs.Text.{after_run}
-use Rattle.nt_read.specs.Escapes.{hex_value, hex_number, uchar_length, IsUchar}
+use Rattle.nt_read.specs.Escapes.{hex_value, hex_number, uchar_length}
 use Rattle.nt_read.specs.Pieces.{pieces}
 use Rattle.nt_read.specs.Terminals.{is_blank, is_string_char}
-use Rattle.nt_read.specs.TerminalReading.{hex_digit, four_digits, eight_digits, uchar_number, read_uchar, escaped_irichar, iri_piece, read_escape, string_piece, read_iri_body, read_iri_ref, read_string_body, read_string, read_langtag, read_label}
-use Rattle.nt_read.specs.LineReading.{LineReading, bad, nothing, spelled, read_subject, read_predicate, literal_of, read_tag, read_datatype, read_tail, read_literal, read_object, is_end, read_statement, read_chars}
+use Rattle.nt_read.specs.TerminalReading.{hex_digit, four_digits, uchar_number, read_uchar, escaped_irichar, iri_piece, string_piece, read_iri_body, read_iri_ref, read_string_body, read_string, read_langtag, read_label}
+use Rattle.nt_read.specs.LineReading.{bad, nothing, read_subject, read_predicate, read_tag, read_tail, read_literal, read_object, is_end, read_statement, read_chars}
 
 number_of_digits : hex_number (codes "00e9") ≡ 0xE9
 unfolding hex_value is_digit

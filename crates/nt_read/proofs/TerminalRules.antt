@@ -15,7 +15,8 @@ use Rattle.bm_term.proofs.LanguageTags.{no_letter, no_alphanumeric, after_langua
 use Rattle.bm_term.proofs.TextLemmas.{after_char-some, before-append}
 use Rattle.nt_read.specs.Pieces.{values, after_values}
 use Rattle.nt_read.specs.Terminals.{IsIriPiece, IsIriRef, IsStringPiece, IsString, IsLangtag, IsBlankNodeLabel, IsMark, is_blank}
-use Rattle.nt_read.specs.TerminalReading.{◌>>=◌, iri_piece, string_piece, read_iri_body, read_iri_ref, read_string_body, read_string, read_langtag, read_label}
+use Rattle.bm_term.specs.Reading.{◌>>=◌}
+use Rattle.nt_read.specs.TerminalReading.{iri_piece, string_piece, read_iri_body, read_iri_ref, read_string_body, read_string, read_langtag, read_label}
 use Rattle.nt_read.proofs.PieceLaws.{splits, passed_to_end}
 use Rattle.nt_read.proofs.CharacterLaws.{iri_piece-passes, iri_piece-forward, iri_piece-over, iri_piece-closed, string_piece-passes, string_piece-forward, string_piece-over, string_piece-closed}
 use Rattle.nt_read.proofs.TerminalLaws.{Reads, reads_exactly}

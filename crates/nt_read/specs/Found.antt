@@ -1,5 +1,5 @@
 -- The terms that stand for what is found in a line.
-use Rattle.std.specs.Prelude.{◌≡◌, ℕ, Bool, ◌&&◌, ◌||◌, nat_le, is_none, List, [], ◌∷◌, map}
+use Rattle.std.specs.Prelude.{◌≡◌, ℕ, Bool, ◌&&◌, ◌||◌, nat_le, is_none, List, [], ◌∷◌, map, length}
 use Rattle.std.specs.Char.{to_ascii_lowercase}
 use Rattle.std.specs.Str.{chars, IsUtf8}
 use Rattle.bm_term.specs.Classes.{is_scalar}
@@ -44,6 +44,11 @@ label_of text = behind_first (behind_first (chars text))
 
 unfoldable pub tag_of : List ℕ → List ℕ
 tag_of text = map to_ascii_lowercase (chars text)
+
+-- how many bytes of a text are copied at once
+abbrev pub raw_length : Quoted → ℕ
+raw_length (Raw text) = length text.now
+raw_length (Escaped body) = 0
 
 -- what is kept as raw is the canonical text of the term
 abbrev pub IsRawTextOf : List ℕ → RdfTerm → Type 0

@@ -10,7 +10,8 @@ use Rattle.nt_read.specs.declared.line.LineFault.{LineFault}
 use Rattle.nt_read.specs.declared.line.LineFault.TheVariants.{Bad, Memory}
 use Rattle.nt_read.specs.Terminals.{is_blank}
 use Rattle.nt_read.specs.Line.{triple_of}
-use Rattle.nt_read.specs.TerminalReading.{◌>>=◌, read_iri_ref, read_string, read_langtag, read_label}
+use Rattle.bm_term.specs.Reading.{◌>>=◌}
+use Rattle.nt_read.specs.TerminalReading.{read_iri_ref, read_string, read_langtag, read_label}
 
 -- what a line is read as: it may be bad, spell nothing, or spell a triple
 pub data LineReading : Type 0 where

@@ -1,19 +1,16 @@
 -- How the terminals of a line are read from its front. The laws that tie this to the grammar are in proofs/.
-use Rattle.std.specs.Prelude.{ℕ, ◌+◌, ◌*◌, ◌==◌, if◌then◌else◌, Option, Some, None, option_and_then, List, [], ◌∷◌, map}
+use Rattle.std.specs.Prelude.{ℕ, ◌+◌, ◌*◌, ◌==◌, if◌then◌else◌, Option, Some, None, List, [], ◌∷◌, map}
 use Rattle.std.specs.Char.{to_ascii_lowercase}
 use Rattle.std.specs.Option.{option_map, option_or}
 use Rattle.bm_term.specs.Classes.{is_scalar, is_hex, is_irichar, is_letter, is_alphanumeric, is_nt_label_first, is_nt_pn_chars}
 use Rattle.bm_term.specs.Escapes.{echar_value}
 use Rattle.bm_term.specs.Marks.{quotation_mark, colon, less_than, greater_than, at_sign, backslash, low_line}
 use Rattle.bm_term.specs.Names.{after_dotted_name, after_language_tag}
+use Rattle.bm_term.specs.Reading.{◌>>=◌}
 use Rattle.bm_term.specs.Text.{after_char, before}
 use Rattle.nt_read.specs.Escapes.{letter_u, capital_u, hex_value}
 use Rattle.nt_read.specs.Pieces.{Step, values, after_values}
 use Rattle.nt_read.specs.Terminals.{is_string_char}
-
-infixl 10 ◌>>=◌
-abbrev pub ◌>>=◌ : {A B : Type 0} → Option A → (A → Option B) → Option B
-o >>= f = option_and_then f o
 
 -- the value of a digit
 unfoldable pub hex_digit : Step

@@ -4,7 +4,7 @@ ghost use Rattle.std.specs.Char.{to_ascii_lowercase};
 ghost use Rattle.std.specs.Str.{chars, encode_utf8_all, IsUtf8};
 ghost use Rattle.bm_term.specs.Canonical.{iri, plain, tagged, escaped, IsTerm, canonical_text};
 ghost use Rattle.bm_term.specs.Marks.{quotation_mark, at_sign, circumflex, less_than, greater_than};
-ghost use Rattle.nt_read.specs.Found.{iri_of, lexical_of, tag_of, IsIriText, IsStringText, IsTailText, IsFoundText, AreFoundTexts, AreTerms, literal_with, term_found, triple_found};
+ghost use Rattle.nt_read.specs.Found.{iri_of, lexical_of, tag_of, raw_length, IsIriText, IsStringText, IsTailText, IsFoundText, AreFoundTexts, AreTerms, literal_with, term_found, triple_found};
 ghost use Rattle.nt_read.specs.LineReading.{literal_of};
 ghost use Rattle.nt_read.specs.Pieces.{values};
 ghost use Rattle.nt_read.specs.TerminalReading.{iri_piece, string_piece};
@@ -151,7 +151,9 @@ fn tagged_text(alloc: Global, string: Quoted<'_>, tag: &str) -> Result<Vec<u8>, 
 }
 
 // How many bytes a raw text has.
-fn raw_len(quoted: Quoted<'_>) -> usize {
+fn raw_len(quoted: Quoted<'_>) -> usize
+    ensures { result ≡ raw_length quoted.entry }
+{
     match quoted {
         Quoted::Raw(text) => text.len(),
         Quoted::Escaped(_) => 0,
