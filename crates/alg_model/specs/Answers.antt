@@ -1,6 +1,6 @@
 -- The answers of a query: the rows of its pattern, cut to its columns, in order. SPARQL 1.1 Query, section 18.2.5.
 -- The order of the rows is this project's: column by column, unbound before bound, terms by the bytes of their text.
-use Rattle.std.specs.Prelude.{ℕ, if◌then◌else◌, List, [], ◌∷◌, map, length, None, slice_index_or}
+use Rattle.std.specs.Prelude.{ℕ, Bool, if◌then◌else◌, List, [], ◌∷◌, map, length, None, slice_index_or}
 use Rattle.std.specs.declared.cmp.Ordering.{Ordering}
 use Rattle.std.specs.List.{list_any}
 use Rattle.std.specs.Option.{option_cmp}
@@ -10,7 +10,7 @@ use Rattle.bm_term.specs.declared.triple.Triple.{Triple}
 use Rattle.alg_model.specs.declared.var.Var.{Var}
 use Rattle.alg_model.specs.declared.query.Query.{Query}
 use Rattle.alg_model.specs.Row.{Row}
-use Rattle.alg_model.specs.Pattern.{algebra_of}
+use Rattle.alg_model.specs.Pattern.{Algebra, algebra_of}
 use Rattle.alg_model.specs.Eval.{as_terms, eval}
 
 -- a row of texts compared with another
@@ -37,9 +37,23 @@ module _ {X : Type 0} (cmp : X → X → Ordering) where
   in_order [] = []
   in_order (x ∷ xs) = put_in_order x (in_order xs)
 
+-- a query as data without boxes, which is what its text denotes. SPARQL 1.1 Query, section 18.2.
+pub record AbstractQuery : Type 0 where
+  pub names : List (List ℕ)
+  pub pattern : Algebra
+  pub columns : List Var
+  pub distinct : Bool
+
+-- what a query of the code is
+abbrev pub abstract_of : Query → AbstractQuery
+abstract_of query = record { names = query.names; pattern = algebra_of query.pattern; columns = query.columns; distinct = query.distinct }
+
 -- the answers over triples: projection, DISTINCT, order
-abbrev pub answers_of : Query → List Triple → List (Row (List ℕ))
-answers_of query triples =
-    let rows = eval as_terms (length query.names) (algebra_of query.pattern) triples in
+abbrev pub answers_to : AbstractQuery → List Triple → List (Row (List ℕ))
+answers_to query triples =
+    let rows = eval as_terms (length query.names) query.pattern triples in
     let projected = map (project query.columns) rows in
     in_order row_cmp (if query.distinct then each_once row_cmp projected else projected)
+
+abbrev pub answers_of : Query → List Triple → List (Row (List ℕ))
+answers_of query triples = answers_to (abstract_of query) triples
