@@ -94,13 +94,20 @@ Four n digits =
     (a b c d : ℕ) × (rest : List ℕ) × (digits ≡ a ∷ b ∷ c ∷ d ∷ rest) × (is_hex a ≡ true) × (is_hex b ≡ true) × (is_hex c ≡ true) × (is_hex d ≡ true)
     × (length rest ≡ n) × (list_all is_hex rest ≡ true)
 
+behind_one : (a : ℕ) (digits after rest : List ℕ) → digits ≡ a ∷ after → after ≡ rest → digits ≡ a ∷ rest
+behind_one a digits after rest split same = split ∙ ap (λ xs. a ∷ xs) same
+
+behind_four : (a b c d : ℕ) (digits after rest : List ℕ) → digits ≡ a ∷ b ∷ c ∷ d ∷ after → after ≡ rest → digits ≡ a ∷ b ∷ c ∷ d ∷ rest
+behind_four a b c d digits after rest split same = split ∙ ap (λ xs. a ∷ b ∷ c ∷ d ∷ xs) same
+
 four_more : (n : ℕ) (digits : List ℕ) → length digits ≡ n + 4 → list_all is_hex digits ≡ true → Four n digits
 four_more n digits long all =
     let (a, after_a, a_split, a_hex, a_long, a_all) = one_more (n + 3) digits (omega arith) all in
     let (b, after_b, b_split, b_hex, b_long, b_all) = one_more (n + 2) after_a (omega arith) a_all in
     let (c, after_c, c_split, c_hex, c_long, c_all) = one_more (n + 1) after_b (omega arith) b_all in
     let (d, rest, d_split, d_hex, d_long, d_all) = one_more n after_c (omega arith) c_all in
-    (a, b, c, d, rest, a_split ∙ ap (λ xs. a ∷ xs) (b_split ∙ ap (λ xs. b ∷ xs) (c_split ∙ ap (λ xs. c ∷ xs) d_split)), a_hex, b_hex, c_hex, d_hex, d_long, d_all)
+    let split = behind_one c after_b after_c (d ∷ rest) c_split d_split in
+    (a, b, c, d, rest, behind_one a digits after_a (b ∷ c ∷ d ∷ rest) a_split (behind_one b after_a after_b (c ∷ d ∷ rest) b_split split), a_hex, b_hex, c_hex, d_hex, d_long, d_all)
 
 -- what was read behind a backslash is an escape
 pub record ReadsUchar (text : List ℕ) (found : ℕ × List ℕ) : Type 0 where
@@ -181,35 +188,51 @@ pub record IsReadBehind (text : List ℕ) (c : ℕ) : Type 0 where
 if_character-is : (n c : ℕ) (rest : List ℕ) → n ≡ c → is_scalar c ≡ true → if_character (n, rest) ≡ Some (c, rest)
 if_character-is n c rest same is = rw (same, is) refl
 
-four_again : (text digits : List ℕ) (c : ℕ) → AreHexDigits 4 digits → text ≡ 92 ∷ 117 ∷ digits → hex_value digits ≡ c → is_scalar c ≡ true → IsReadBehind text c
-unfolding read_uchar
-four_again text digits c (long, all) spelled names is =
-    let (w, x, y, z, rest, split, w_hex, x_hex, y_hex, z_hex, none, _) = four_more 0 digits long all in
-    let ended : rest ≡ [] = nil_from_length rest none in
-    let value : four_value w x y z ≡ c = sym (hex_value-four w x y z) ∙ ap (λ xs. hex_value (w ∷ x ∷ y ∷ z ∷ xs)) (sym ended) ∙ ap hex_value (sym split) ∙ names in
-    record {
-      letter = 117;
-      digits = w ∷ x ∷ y ∷ z ∷ [];
-      no_echar = no_echar_u;
-      spelled = spelled ∙ ap (λ xs. 92 ∷ 117 ∷ xs) (split ∙ ap (λ xs. w ∷ x ∷ y ∷ z ∷ xs) ended);
-      read = λ more. rw (read_four_digits-again w x y z more w_hex x_hex y_hex z_hex) (if_character-is (four_value w x y z) c more value is);
-    }
+-- digits, letter by letter
+spelled_as : (u : ℕ) (text digits other : List ℕ) → text ≡ 92 ∷ u ∷ digits → digits ≡ other → text ≡ 92 ∷ u ∷ other
+spelled_as u text digits other spelled same = spelled ∙ ap (λ xs. 92 ∷ u ∷ xs) same
 
-eight_again : (text digits : List ℕ) (c : ℕ) → AreHexDigits 8 digits → text ≡ 92 ∷ 85 ∷ digits → hex_value digits ≡ c → is_scalar c ≡ true → IsReadBehind text c
+valued_as : (digits other : List ℕ) (n c : ℕ) → hex_value digits ≡ c → digits ≡ other → hex_value other ≡ n → n ≡ c
+valued_as digits other n c names same value = sym value ∙ ap hex_value (sym same) ∙ names
+
+four_read : (text : List ℕ) (a b c d n : ℕ) → is_hex a ≡ true → is_hex b ≡ true → is_hex c ≡ true → is_hex d ≡ true → text ≡ 92 ∷ 117 ∷ a ∷ b ∷ c ∷ d ∷ [] → four_value a b c d ≡ n → is_scalar n ≡ true → IsReadBehind text n
+unfolding read_uchar
+four_read text a b c d n a_hex b_hex c_hex d_hex spelled value is = record {
+  letter = 117;
+  digits = a ∷ b ∷ c ∷ d ∷ [];
+  no_echar = no_echar_u;
+  spelled = spelled;
+  read = λ more. rw (read_four_digits-again a b c d more a_hex b_hex c_hex d_hex) (if_character-is (four_value a b c d) n more value is);
+}
+
+eight_read : (text : List ℕ) (a b c d p q r s n : ℕ) → is_hex a ≡ true → is_hex b ≡ true → is_hex c ≡ true → is_hex d ≡ true → is_hex p ≡ true → is_hex q ≡ true → is_hex r ≡ true → is_hex s ≡ true
+    → text ≡ 92 ∷ 85 ∷ a ∷ b ∷ c ∷ d ∷ p ∷ q ∷ r ∷ s ∷ [] → 65536 * four_value a b c d + four_value p q r s ≡ n → is_scalar n ≡ true → IsReadBehind text n
 unfolding read_uchar read_eight_digits
-eight_again text digits c (long, all) spelled names is =
-    let (w, x, y, z, rest, split, w_hex, x_hex, y_hex, z_hex, four, four_all) = four_more 4 digits long all in
+eight_read text a b c d p q r s n a_hex b_hex c_hex d_hex p_hex q_hex r_hex s_hex spelled value is = record {
+  letter = 85;
+  digits = a ∷ b ∷ c ∷ d ∷ p ∷ q ∷ r ∷ s ∷ [];
+  no_echar = no_echar_capital_u;
+  spelled = spelled;
+  read = λ more.
+      rw (read_four_digits-again a b c d (p ∷ q ∷ r ∷ s ∷ more) a_hex b_hex c_hex d_hex, read_four_digits-again p q r s more p_hex q_hex r_hex s_hex)
+      (if_character-is (65536 * four_value a b c d + four_value p q r s) n more value is);
+}
+
+four_again : (text digits : List ℕ) (n : ℕ) → AreHexDigits 4 digits → text ≡ 92 ∷ 117 ∷ digits → hex_value digits ≡ n → is_scalar n ≡ true → IsReadBehind text n
+four_again text digits n (long, all) spelled names is =
+    let (a, b, c, d, rest, split, a_hex, b_hex, c_hex, d_hex, none, _) = four_more 0 digits long all in
+    let whole = behind_four a b c d digits rest [] split (nil_from_length rest none) in
+    four_read text a b c d n a_hex b_hex c_hex d_hex (spelled_as 117 text digits (a ∷ b ∷ c ∷ d ∷ []) spelled whole)
+    (valued_as digits (a ∷ b ∷ c ∷ d ∷ []) (four_value a b c d) n names whole (hex_value-four a b c d)) is
+
+eight_again : (text digits : List ℕ) (n : ℕ) → AreHexDigits 8 digits → text ≡ 92 ∷ 85 ∷ digits → hex_value digits ≡ n → is_scalar n ≡ true → IsReadBehind text n
+eight_again text digits n (long, all) spelled names is =
+    let (a, b, c, d, rest, split, a_hex, b_hex, c_hex, d_hex, four, four_all) = four_more 4 digits long all in
     let (p, q, r, s, end, end_split, p_hex, q_hex, r_hex, s_hex, none, _) = four_more 0 rest four four_all in
-    let ended : end ≡ [] = nil_from_length end none in
-    let whole : digits ≡ w ∷ x ∷ y ∷ z ∷ p ∷ q ∷ r ∷ s ∷ [] = split ∙ ap (λ xs. w ∷ x ∷ y ∷ z ∷ xs) (end_split ∙ ap (λ xs. p ∷ q ∷ r ∷ s ∷ xs) ended) in
-    let value : 65536 * four_value w x y z + four_value p q r s ≡ c = sym (hex_value-eight w x y z p q r s) ∙ ap hex_value (sym whole) ∙ names in
-    record {
-      letter = 85;
-      digits = w ∷ x ∷ y ∷ z ∷ p ∷ q ∷ r ∷ s ∷ [];
-      no_echar = no_echar_capital_u;
-      spelled = spelled ∙ ap (λ xs. 92 ∷ 85 ∷ xs) whole;
-      read = λ more. rw (read_four_digits-again w x y z (p ∷ q ∷ r ∷ s ∷ more) w_hex x_hex y_hex z_hex, read_four_digits-again p q r s more p_hex q_hex r_hex s_hex) (if_character-is (65536 * four_value w x y z + four_value p q r s) c more value is);
-    }
+    let behind = behind_four p q r s rest end [] end_split (nil_from_length end none) in
+    let whole = behind_four a b c d digits rest (p ∷ q ∷ r ∷ s ∷ []) split behind in
+    eight_read text a b c d p q r s n a_hex b_hex c_hex d_hex p_hex q_hex r_hex s_hex (spelled_as 85 text digits (a ∷ b ∷ c ∷ d ∷ p ∷ q ∷ r ∷ s ∷ []) spelled whole)
+    (valued_as digits (a ∷ b ∷ c ∷ d ∷ p ∷ q ∷ r ∷ s ∷ []) (65536 * four_value a b c d + four_value p q r s) n names whole (hex_value-eight a b c d p q r s)) is
 
 pub read_uchar-again : (text : List ℕ) (c : ℕ) → IsUchar text c → IsReadBehind text c
 read_uchar-again text c uchar =
