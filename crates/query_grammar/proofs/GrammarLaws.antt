@@ -14,7 +14,7 @@ use Rattle.query_grammar.specs.Expecting.{start, ended, next_step, Reading, read
 use Rattle.query_grammar.proofs.Remainders.{tree_left, remainder_of}
 use Rattle.query_grammar.proofs.Carrying.{Reads}
 use Rattle.query_grammar.proofs.Productions.{query-reads, query-tree}
-use Rattle.query_grammar.proofs.Following.{reads-query}
+use Rattle.query_grammar.proofs.Growing.{reads-query}
 use Rattle.query_grammar.proofs.Runs.{reading_of, read-nothing, read-none, read-step, read-step-none, reads-run, run-reads, reads-append, reads-split, read-front, read-last-none}
 use Rattle.query_grammar.proofs.Endings.{at_end-ended, state-ends}
 
