@@ -14,8 +14,8 @@ use Rattle.query_grammar.specs.Expecting.{start, ended, next_step, Reading, read
 use Rattle.query_grammar.proofs.Remainders.{tree_left, remainder_of}
 use Rattle.query_grammar.proofs.Carrying.{Reads}
 use Rattle.query_grammar.proofs.Productions.{query-reads, query-tree}
-use Rattle.query_grammar.proofs.Following.{reads-query}
-use Rattle.query_grammar.proofs.Runs.{reading_of, read-nothing, read-none, read-step, read-step-none, reads-run, run-reads, reads-append, read-front, read-last-none}
+use Rattle.query_grammar.proofs.Growing.{reads-query}
+use Rattle.query_grammar.proofs.Runs.{reading_of, read-nothing, read-none, read-step, read-step-none, reads-run, run-reads, reads-append, reads-split, read-front, read-last-none}
 use Rattle.query_grammar.proofs.Endings.{at_end-ended, state-ends}
 
 -- a query is read to its end, in its roles
@@ -51,6 +51,22 @@ pub Begins-read : (tokens : List Lexeme) → Begins tokens → (reading : Readin
 Begins-read tokens begins =
     read-front tokens begins.more start (reading_of begins.labelled ended)
     (ap (read_tokens start) (sym begins.tokens_are) ∙ query-run begins.tree begins.labelled begins.is_query)
+
+-- the front of a query is read in its roles
+pub front-run : (tree : Syntax) (labelled behind : List Labelled) → IsQuery tree (labelled ++ behind) →
+    (state : State) × (read_tokens start (tokens_of labelled) ≡ Some (reading_of labelled state))
+front-run tree labelled behind query =
+    let split = reads-split labelled behind ended start (query-reads tree (labelled ++ behind) query) in
+    (split.0, reads-run labelled split.0 start split.1)
+
+-- what is read in some roles is the front of a query in these roles
+pub read-front_of_query : (tokens : List Lexeme) (reading : Reading) → read_tokens start tokens ≡ Some reading →
+    (behind : List Labelled) × (tree : Syntax) × IsQuery tree (reading.labelled ++ behind)
+read-front_of_query tokens reading read =
+    let run = run-reads tokens start reading read in
+    let rest = state-ends reading.labelled reading.state run.reads in
+    let all = reads-append reading.labelled rest.0 ended reading.state start run.reads rest.1 in
+    (rest.0, tree_left (remainder_of (reading.labelled ++ rest.0)), reads-query (reading.labelled ++ rest.0) all)
 
 -- tokens that are read begin a query
 pub read-Begins : (tokens : List Lexeme) (reading : Reading) → read_tokens start tokens ≡ Some reading → Begins tokens

@@ -4,6 +4,7 @@ mod Endings
 mod Examples
 mod Following
 mod GrammarLaws
+mod Growing
 mod Productions
 mod Remainders
 mod Runs

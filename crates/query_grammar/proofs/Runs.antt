@@ -100,6 +100,12 @@ pub reads-append : (front back : List Labelled) (last middle state : State) → 
 reads-append [] back last middle state e reads = let P : State → Type 0 = λ s. Reads last s back in subst P (sym e) reads
 reads-append (l ∷ front) back last middle state (next, is, rest) reads = (next, is, reads-append front back last middle next rest reads)
 
+-- a run over labelled tokens is one over their front, and one behind it
+pub reads-split : (front back : List Labelled) (last state : State) → Reads last state (front ++ back) → (middle : State) × Reads middle state front × Reads last middle back
+reads-split [] back last state reads = (state, refl, reads)
+reads-split (l ∷ front) back last state (next, is, rest) =
+    let split = reads-split front back last next rest in (split.0, (next, is, split.1), split.2)
+
 -- the front of tokens that are read is read
 pub read-front : (front back : List Lexeme) (state : State) (reading : Reading) → read_tokens state (front ++ back) ≡ Some reading → (r : Reading) × (read_tokens state front ≡ Some r)
 read-front [] back state reading e = (reading_of [] state, read-nothing state)

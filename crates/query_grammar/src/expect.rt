@@ -337,7 +337,8 @@ fn after_semicolon(groups: usize, terminal: Terminal) -> Option<Step>
 }
 
 /// What a token of this terminal symbol is for where the query stands so, and where it stands behind
-/// the token; `None` where no query of the grammar goes on with such a token.
+/// the token; `None` where no query of the grammar goes on with such a token. The count of open groups
+/// has room for one more: a caller that bounds how deep groups may stand keeps it far below.
 #[tactic(auto, unfolding(crate::specs::Expecting::next_step))]
 pub fn next(state: State, terminal: Terminal) -> Option<Step>
     requires { state.groups + 1 < 2 ^ 64 }

@@ -1,6 +1,7 @@
 // Laws between the grammar and the push parser. The calls do nothing: their contracts are the laws.
 ghost use Rattle.std.specs.Prelude.{◌≡◌, ◌↔◌, ◌++◌, ◌∷◌, ◌⊎◌, [], ℕ, IsSome, List, Some, None};
 ghost use Rattle.query_tokens.specs.Token.{Lexeme};
+ghost use Rattle.query_grammar.specs.declared.expect.State.{State};
 ghost use Rattle.query_grammar.specs.Terminals.{terminal_of};
 ghost use Rattle.query_grammar.specs.Roles.{Labelled, open_groups, tokens_of};
 ghost use Rattle.query_grammar.specs.Tree.{Syntax};
@@ -31,12 +32,15 @@ pub fn tokens_have_one_tree()
 {}
 
 /// The push parser reads exactly the tokens that begin some query; a token for which `next` gives
-/// nothing begins none, together with those before it.
+/// nothing begins none, together with those before it. What it reads has the roles of a query that it
+/// begins.
 pub fn beginnings_are_read()
     ensures exactly { (tokens : List Lexeme) → Begins tokens ↔ IsSome (read_tokens start tokens) }
     ensures refused { (tokens : List Lexeme) (token : Lexeme) (reading : Reading) →
         read_tokens start tokens ≡ Some reading → next_step reading.state (terminal_of token) ≡ None →
         ¬ Begins (tokens ++ token ∷ []) }
+    ensures roles { (tree : Syntax) (labelled behind : List Labelled) → IsQuery tree (labelled ++ behind) →
+        (state : State) × (read_tokens start (tokens_of labelled) ≡ Some (record { labelled = labelled; state = state })) }
 {}
 
 /// The fault of the grammar stands exactly where the push parser stops. Tokens are a query or have one
