@@ -1,14 +1,16 @@
 -- Worked examples of the definitions.
 use Rattle.std.proofs.Common.{◌≡◌, false, refl, inl, inr, Some, None, [], ◌∷◌, arith}
 use Rattle.std.specs.Prelude.{codes}
-use Rattle.bm_term.specs.Classes.{is_hex, is_scalar, is_irichar, is_digit, is_pn_chars_base, is_pn_chars_more, is_sparql_pn_chars_u, is_sparql_pn_chars, is_sparql_label_first}
+use Rattle.bm_term.specs.Classes.{is_scalar, is_irichar, is_digit, is_pn_chars_base, is_pn_chars_more, is_sparql_pn_chars_u, is_sparql_pn_chars, is_sparql_label_first}
 use Rattle.bm_term.specs.Escapes.{echar_value}
 use Rattle.bm_term.specs.Text.{after_run}
 use Rattle.bm_term.specs.Repetition.{after_pieces}
 use Rattle.query_tokens.specs.declared.token.TokenKind.TheVariants.{Integer, Decimal, Word, Quoted, Sign, Quotes}
-use Rattle.query_tokens.specs.Uchar.{hex_digit, hex_value, IsUchar, read_two_digits, read_four_digits, read_uchar}
-use Rattle.query_tokens.specs.Iriref.{SpellsIri, after_iri_piece, after_iri}
-use Rattle.query_tokens.specs.Strings.{after_escape, after_string_piece, after_string}
+use Rattle.rdf_escapes.specs.Pieces.{pieces}
+use Rattle.rdf_escapes.specs.Strings.{is_string_char}
+use Rattle.rdf_escapes.specs.Reading.{iri_piece, string_piece, read_escape}
+use Rattle.query_tokens.specs.Iriref.{after_iri}
+use Rattle.query_tokens.specs.Strings.{after_string}
 use Rattle.query_tokens.specs.Numbers.{after_exponent, read_after_point, read_after_digits, read_number}
 use Rattle.query_tokens.specs.PrefixedNames.{SpellsLocal, is_local_escape, is_local_first, is_local_inner, after_local_piece, after_dotted_piece, after_local}
 use Rattle.query_tokens.specs.Variables.{is_variable_inner}
@@ -18,39 +20,18 @@ use Rattle.query_tokens.specs.Token.{IsToken}
 use Rattle.query_tokens.specs.Tokens.{IsSliceOf}
 use Rattle.query_tokens.specs.Scanning.{read_sign, read_marked, read_token}
 
--- escapes by number
-e_acute : hex_value (codes "00e9") ≡ 0xE9
-unfolding hex_digit
-e_acute = refl
-
-letter_a : IsUchar (codes "\\u0041") 0x41
-unfolding hex_digit is_hex is_scalar
-letter_a = record { digits = codes "0041"; spelled = inl ((refl, refl), refl); names = refl; character = refl }
-
-letter_a_is_read : read_uchar (codes "u0041>") ≡ Some (0x41, codes ">")
-unfolding read_uchar read_four_digits read_two_digits hex_digit is_hex is_scalar
-letter_a_is_read = refl
-
-no_surrogate : read_uchar (codes "uD800") ≡ None
-unfolding read_uchar read_four_digits read_two_digits hex_digit is_hex is_scalar
-no_surrogate = refl
-
 -- IRIs
-escape_in_iri : SpellsIri (codes "<\\u0041>") (codes "A")
-unfolding is_irichar is_scalar hex_digit is_hex
-escape_in_iri = (codes "\\u0041", (codes "\\u0041", [], (refl, inr letter_a), refl, refl), refl)
-
 no_space_in_iri : after_iri (codes "a b>") ≡ None
-unfolding after_iri after_iri_piece after_pieces is_irichar is_scalar
+unfolding after_iri pieces iri_piece is_irichar is_scalar
 no_space_in_iri = refl
 
 -- strings
 string_ends : after_string 34 (codes "a\\\"b\" .") ≡ Some (codes " .")
-unfolding after_string after_string_piece after_escape after_pieces echar_value
+unfolding after_string pieces string_piece is_string_char read_escape echar_value is_scalar
 string_ends = refl
 
 empty_string : IsToken Quoted (codes "''")
-empty_string = ([], record { mark = 39; body = []; quote = refl; pieces = refl; spelled = refl })
+empty_string = ([], record { mark = 39; quote = refl; string = ([], refl, refl) })
 
 three_marks : IsToken Quotes (codes "\"\"\"")
 three_marks = (34, refl, refl)
@@ -113,7 +94,7 @@ unfolding read_token read_marked read_sign is_pn_chars_base is_digit
 two_circumflexes = refl
 
 no_token : read_token (codes "<") ≡ None
-unfolding read_token read_marked after_iri after_pieces is_pn_chars_base is_digit
+unfolding read_token read_marked after_iri pieces is_pn_chars_base is_digit
 no_token = refl
 
 at_its_place : IsSliceOf (codes "a b") record { kind = Word; text = codes "b"; at = 2 }

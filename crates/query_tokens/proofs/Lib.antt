@@ -1,5 +1,4 @@
 pub mod Walks
-pub mod Uchars
 pub mod Iris
 pub mod QuotedStrings
 pub mod BlankRuns

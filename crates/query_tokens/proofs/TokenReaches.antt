@@ -13,11 +13,13 @@ use Rattle.bm_term.proofs.DottedNames.{after_dotted_name-reaches}
 use Rattle.bm_term.proofs.LanguageTags.{after_language_tag-reaches, no_letter, no_alphanumeric}
 use Rattle.query_tokens.specs.declared.token.TokenKind.{TokenKind}
 use Rattle.query_tokens.specs.declared.token.TokenKind.TheVariants.{Iri, Prefix, Prefixed, Variable, Quoted, Tag, Integer, Decimal, Double, Word, Blank, Sign, Quotes, Bad}
-use Rattle.query_tokens.specs.Marks.{is_quote, is_number_sign}
+use Rattle.rdf_escapes.specs.Strings.{is_quote}
+use Rattle.query_tokens.specs.Marks.{is_number_sign}
 use Rattle.query_tokens.specs.Iriref.{IsIriref, after_iri}
 use Rattle.query_tokens.specs.PrefixedNames.{IsPrefix, IsPrefixed, read_local, read_name}
 use Rattle.query_tokens.specs.Variables.{is_variable_inner, IsVariable, after_variable_name}
-use Rattle.query_tokens.specs.Strings.{IsStringPiece, IsQuoted, IsThreeQuotes, after_string}
+use Rattle.rdf_escapes.specs.Strings.{IsStringPiece}
+use Rattle.query_tokens.specs.Strings.{IsQuoted, IsThreeQuotes, after_string}
 use Rattle.query_tokens.specs.Numbers.{IsSigned, IsDigits, IsFraction, IsScientific, read_fraction, read_number}
 use Rattle.query_tokens.specs.Signs.{is_sign, IsSign}
 use Rattle.query_tokens.specs.Token.{IsTag, IsBlankLabel, IsToken}
@@ -170,8 +172,9 @@ body-reaches mark (c ∷ cs) body more quote star =
 
 quoted-reaches : (front more : List ℕ) → IsQuoted front → Reached (read_token (front ++ more)) Quoted more
 quoted-reaches front more (lexical, spells) =
-    rw (spells.spelled, append_assoc spells.body (spells.mark ∷ []) more, read_token-quote spells.mark (spells.body ++ spells.mark ∷ more) spells.quote)
-    (body-reaches spells.mark lexical spells.body more spells.quote spells.pieces)
+    let (body, star, spelled) = spells.string in
+    rw (spelled, append_assoc body (spells.mark ∷ []) more, read_token-quote spells.mark (body ++ spells.mark ∷ more) spells.quote)
+    (body-reaches spells.mark lexical body more spells.quote star)
 
 quotes-reaches : (front more : List ℕ) → IsThreeQuotes front → Reached (read_token (front ++ more)) Quotes more
 unfolding read_quoted after_two_more

@@ -11,7 +11,8 @@ use Rattle.bm_term.proofs.DottedNames.{after_dotted_name-sound}
 use Rattle.bm_term.proofs.LanguageTags.{after_language_tag-sound}
 use Rattle.query_tokens.specs.declared.token.TokenKind.{TokenKind}
 use Rattle.query_tokens.specs.declared.token.TokenKind.TheVariants.{Iri, Variable, Quoted, Tag, Blank, Sign, Quotes}
-use Rattle.query_tokens.specs.Marks.{is_quote, is_number_sign}
+use Rattle.rdf_escapes.specs.Strings.{is_quote}
+use Rattle.query_tokens.specs.Marks.{is_number_sign}
 use Rattle.query_tokens.specs.Iriref.{after_iri}
 use Rattle.query_tokens.specs.PrefixedNames.{read_local, read_name}
 use Rattle.query_tokens.specs.Variables.{is_variable_mark, is_variable_inner, IsVariableName, after_variable_name}

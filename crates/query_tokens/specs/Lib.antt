@@ -8,5 +8,4 @@ pub mod Signs
 pub mod Strings
 pub mod Token
 pub mod Tokens
-pub mod Uchar
 pub mod Variables

@@ -1,6 +1,6 @@
 -- The marks of the query grammar that bm_term does not name.
 use Rattle.std.specs.Prelude.{ℕ, Bool, ◌||◌, ◌==◌}
-use Rattle.bm_term.specs.Marks.{quotation_mark, apostrophe, hyphen}
+use Rattle.bm_term.specs.Marks.{hyphen}
 
 -- $
 abbrev pub dollar_sign : ℕ
@@ -24,17 +24,6 @@ letter_e = 0x65
 
 abbrev pub capital_e : ℕ
 capital_e = 0x45
-
--- u and U, of escapes
-abbrev pub letter_u : ℕ
-letter_u = 0x75
-
-abbrev pub capital_u : ℕ
-capital_u = 0x55
-
--- " | '
-abbrev pub is_quote : ℕ → Bool
-is_quote c = c == quotation_mark || c == apostrophe
 
 -- '+' | '-'
 abbrev pub is_number_sign : ℕ → Bool

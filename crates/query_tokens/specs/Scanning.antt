@@ -8,7 +8,8 @@ use Rattle.bm_term.specs.Text.{after_char}
 use Rattle.bm_term.specs.Reading.{◌>>=◌}
 use Rattle.query_tokens.specs.declared.token.TokenKind.{TokenKind}
 use Rattle.query_tokens.specs.declared.token.TokenKind.TheVariants.{Iri, Variable, Quoted, Tag, Blank, Sign, Quotes, Bad}
-use Rattle.query_tokens.specs.Marks.{plus_sign, question_mark, dollar_sign, is_quote}
+use Rattle.rdf_escapes.specs.Strings.{is_quote}
+use Rattle.query_tokens.specs.Marks.{plus_sign, question_mark, dollar_sign}
 use Rattle.query_tokens.specs.Iriref.{after_iri}
 use Rattle.query_tokens.specs.PrefixedNames.{read_local, read_name}
 use Rattle.query_tokens.specs.Variables.{after_variable_name}

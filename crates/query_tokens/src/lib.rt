@@ -15,7 +15,6 @@ mod source;
 mod strings;
 mod token;
 mod token_list;
-mod uchar;
 mod variables;
 
 pub use laws::{a_source_has_one_list_of_tokens, a_text_is_of_one_kind, each_source_has_tokens};
