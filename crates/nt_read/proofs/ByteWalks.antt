@@ -17,7 +17,7 @@ use Rattle.bm_term.proofs.Spellings.{escaped_is_ascii}
 use Rattle.bm_term.proofs.TextLemmas.{after_run-split, after_run-append}
 use Rattle.bm_term.proofs.Unescaping.{encode_is_high}
 use Rattle.nt_read.specs.Found.{is_raw_char, is_raw_byte}
-use Rattle.nt_read.proofs.EscapeLaws.{is_scalar-scalar}
+use Rattle.rdf_escapes.proofs.EscapeLaws.{is_scalar-scalar}
 
 ends_with : (text front end : List ℕ) → IsUtf8 text → chars text ≡ front ++ end → EndsWith text (encode_utf8_all end) end
 ends_with text front end utf8 split =

@@ -1,7 +1,5 @@
 pub mod ByteWalks
-pub mod CharacterLaws
 pub mod Cuts
-pub mod EscapeLaws
 pub mod Examples
 pub mod FirstBad
 pub mod Fronts
@@ -9,7 +7,6 @@ pub mod LineAnswers
 pub mod LineExamples
 pub mod LineLaws
 pub mod LiteralTexts
-pub mod PieceLaws
 pub mod PlaceLaws
 pub mod RawLaws
 pub mod SpelledTriples

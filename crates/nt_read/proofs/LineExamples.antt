@@ -1,24 +1,17 @@
--- Worked examples of lines and of escapes.
-use Rattle.std.proofs.Common.{◌≡◌, refl, Some, None, []}
+-- Worked examples of lines.
+use Rattle.std.proofs.Common.{◌≡◌, refl, Some}
 use Rattle.std.specs.Prelude.{codes}
 use Rattle.bm_term.specs.Canonical.{iri, blank, tagged}
-use Rattle.bm_term.specs.Classes.{is_scalar, is_irichar, is_hex, is_digit, is_letter, is_alphanumeric, is_nt_label_first, is_nt_pn_chars, is_nt_pn_chars_u, is_pn_chars_base, is_pn_chars_more}
+use Rattle.bm_term.specs.Classes.{is_scalar, is_irichar, is_digit, is_letter, is_alphanumeric, is_nt_label_first, is_nt_pn_chars, is_nt_pn_chars_u, is_pn_chars_base, is_pn_chars_more}
 use Rattle.bm_term.specs.Names.{dotted_end, after_dotted_name, after_subtag, after_language_tag}
 use Rattle.bm_term.specs.Repetition.{after_pieces}
 use Rattle.bm_term.specs.Text.{after_run}
-use Rattle.nt_read.specs.Escapes.{hex_value, hex_number, uchar_length}
-use Rattle.nt_read.specs.Pieces.{pieces}
-use Rattle.nt_read.specs.Terminals.{is_blank, is_string_char}
-use Rattle.nt_read.specs.TerminalReading.{hex_digit, four_digits, uchar_number, read_uchar, escaped_irichar, iri_piece, string_piece, read_iri_body, read_iri_ref, read_string_body, read_string, read_langtag, read_label}
+use Rattle.rdf_escapes.specs.Pieces.{pieces}
+use Rattle.rdf_escapes.specs.Reading.{iri_piece, string_piece, read_iri_body, read_iri_ref, read_string_body, read_string}
+use Rattle.rdf_escapes.specs.Strings.{is_string_char}
+use Rattle.nt_read.specs.Terminals.{is_blank}
+use Rattle.nt_read.specs.TerminalReading.{read_langtag, read_label}
 use Rattle.nt_read.specs.LineReading.{bad, nothing, read_subject, read_predicate, read_tag, read_tail, read_literal, read_object, is_end, read_statement, read_chars}
-
-number_of_digits : hex_number (codes "00e9") ≡ 0xE9
-unfolding hex_value is_digit
-number_of_digits = refl
-
-letters_of_numbers : uchar_length 0x75 ≡ Some 4
-unfolding uchar_length
-letters_of_numbers = refl
 
 three_iris : read_statement (codes "<urn:a> <urn:p><urn:b>.#x") ≡ Some (iri (codes "urn:a"), iri (codes "urn:p"), iri (codes "urn:b"))
 unfolding is_end after_run is_blank read_statement read_subject read_predicate read_object read_iri_ref read_iri_body pieces iri_piece is_irichar is_scalar
@@ -28,16 +21,6 @@ three_iris = refl
 tagged_literal : read_statement (codes "_:a.b <urn:p> \"x\" @EN-us .") ≡ Some (blank (codes "a.b"), iri (codes "urn:p"), tagged (codes "x") (codes "en-us"))
 unfolding is_end after_run is_blank read_statement read_subject read_predicate read_object read_iri_ref read_iri_body read_label after_dotted_name dotted_end read_literal read_string read_string_body read_tail read_tag read_langtag after_language_tag after_subtag after_pieces pieces iri_piece string_piece is_string_char is_irichar is_scalar is_letter is_digit is_alphanumeric is_nt_label_first is_nt_pn_chars is_nt_pn_chars_u is_pn_chars_base is_pn_chars_more
 tagged_literal = refl
-
--- an escape stands for its character
-escaped_iri : read_iri_ref (codes "<a\\u0041>") ≡ Some (codes "aA", [])
-unfolding read_iri_ref read_iri_body pieces iri_piece escaped_irichar read_uchar uchar_number four_digits hex_digit hex_value is_hex is_digit is_irichar is_scalar
-escaped_iri = refl
-
--- but for no bracket
-escaped_bracket : read_iri_ref (codes "<\\u003E>") ≡ None
-unfolding read_iri_ref read_iri_body pieces iri_piece escaped_irichar read_uchar uchar_number four_digits hex_digit hex_value is_hex is_digit is_irichar is_scalar
-escaped_bracket = refl
 
 comment_alone : read_chars (codes " # note") ≡ nothing
 unfolding read_chars is_end after_run is_blank

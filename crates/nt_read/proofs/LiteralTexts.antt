@@ -14,14 +14,9 @@ use Rattle.nt_read.specs.declared.found.Quoted.{Quoted}
 use Rattle.nt_read.specs.declared.found.Quoted.TheVariants.{Raw, Escaped}
 use Rattle.nt_read.specs.Found.{iri_of, behind_first}
 use Rattle.nt_read.specs.LineReading.{literal_of}
-use Rattle.nt_read.specs.Pieces.{values}
-use Rattle.nt_read.specs.Terminals.{IsIriPiece}
-use Rattle.nt_read.specs.TerminalReading.{iri_piece}
-use Rattle.nt_read.proofs.CharacterLaws.{iri_piece-forward, iri_piece-passes}
-use Rattle.nt_read.proofs.PieceLaws.{splits}
+use Rattle.rdf_escapes.proofs.Members.{iri_values-irichars}
+use Rattle.rdf_escapes.proofs.SpellingLaws.{enclosed}
 use Rattle.nt_read.proofs.PlaceLaws.{literal_of-xsd_string, literal_of-other}
-use Rattle.nt_read.proofs.TerminalRules.{enclosed}
-use Rattle.nt_read.proofs.TermLaws.{iri_members}
 
 -- the text of a literal is that of its lexical form alone, and what follows
 text_and_tail : (lexical tail : List ℕ) → encode_utf8_all (quotation_mark ∷ (escaped lexical ++ quotation_mark ∷ tail)) ≡ canonical_text (plain lexical) ++ encode_utf8_all tail
@@ -79,12 +74,7 @@ pub typed_of_other : (text lexical cs : List ℕ) → cs ≢ xsd_string → text
 typed_of_other text lexical cs other is = is ∙ ap canonical_text (sym (literal_of-other lexical cs other))
 
 -- the characters of an IRI are members of its class
-values_are_members : (text : List ℕ) → list_all is_irichar (values iri_piece text) ≡ true
-values_are_members text =
-    let (front, star, split) = splits iri_piece iri_piece-forward IsIriPiece iri_piece-passes text in
-    iri_members (values iri_piece text) front star
-
 pub iri_of-members : (quoted : Quoted) → list_all is_irichar (iri_of quoted) ≡ true
 unfolding iri_of
-iri_of-members (Raw text) = values_are_members (behind_first (chars text.now))
-iri_of-members (Escaped body) = values_are_members (chars body.now)
+iri_of-members (Raw text) = iri_values-irichars (behind_first (chars text.now))
+iri_of-members (Escaped body) = iri_values-irichars (chars body.now)

@@ -9,9 +9,12 @@ use Rattle.bm_term.specs.Marks.{quotation_mark, full_stop, at_sign, circumflex, 
 use Rattle.bm_term.specs.Canonical.{RdfTerm, iri, blank, plain, tagged, typed, xsd_string}
 use Rattle.bm_term.specs.Text.{after_char}
 use Rattle.bm_term.proofs.TextLemmas.{after_run-split, after_run-append, after_run-stop, after_run-nil}
-use Rattle.nt_read.specs.Terminals.{IsIriRef, IsBlankNodeLabel, IsString, IsLangtag, IsMark, Terminal, is_blank}
+use Rattle.rdf_escapes.specs.Iris.{IsIriRef}
+use Rattle.rdf_escapes.specs.Reading.{read_iri_ref, read_string}
+use Rattle.rdf_escapes.specs.Strings.{IsString}
+use Rattle.nt_read.specs.Terminals.{IsBlankNodeLabel, IsLangtag, IsMark, Terminal, is_blank}
 use Rattle.nt_read.specs.Line.{IsSubject, IsPredicate, IsObject, IsTagged, IsTyped, IsCommentOrNothing, IsEnd}
-use Rattle.nt_read.specs.TerminalReading.{read_iri_ref, read_string, read_langtag, read_label}
+use Rattle.nt_read.specs.TerminalReading.{read_langtag, read_label}
 use Rattle.nt_read.specs.LineReading.{after_blanks, read_iri, read_blank, read_node, read_subject, read_predicate, literal_of, read_tag, read_datatype, read_tail, read_literal, read_object, is_comment_or_nothing, is_end}
 use Rattle.nt_read.proofs.TerminalLaws.{terminal_found, terminal_read}
 use Rattle.nt_read.proofs.TerminalRules.{iri_ref-reads, string-reads, langtag-reads, label-reads, read_dot, dot-reads, read_datatype_mark, datatype_mark-reads}
@@ -35,8 +38,8 @@ iri_at text rest cs e = terminal_found IsIriRef read_iri_ref iri_ref-reads text 
 label_at : (text rest label : List ℕ) → read_label (after_blanks text) ≡ Some (label, rest) → Terminal IsBlankNodeLabel text label rest
 label_at text rest label e = terminal_found IsBlankNodeLabel read_label label-reads text rest label e
 
-string_at : (text rest lexical : List ℕ) → read_string (after_blanks text) ≡ Some (lexical, rest) → Terminal IsString text lexical rest
-string_at text rest lexical e = terminal_found IsString read_string string-reads text rest lexical e
+string_at : (text rest lexical : List ℕ) → read_string quotation_mark (after_blanks text) ≡ Some (lexical, rest) → Terminal (IsString quotation_mark) text lexical rest
+string_at text rest lexical e = terminal_found (IsString quotation_mark) (read_string quotation_mark) string-reads text rest lexical e
 
 langtag_at : (text rest tag : List ℕ) → read_langtag (after_blanks text) ≡ Some (tag, rest) → Terminal IsLangtag text tag rest
 langtag_at text rest tag e = terminal_found IsLangtag read_langtag langtag-reads text rest tag e
@@ -47,8 +50,8 @@ read_iri_at text rest cs t = terminal_read IsIriRef read_iri_ref iri_ref-reads t
 read_label_at : (text rest label : List ℕ) → Terminal IsBlankNodeLabel text label rest → read_label (after_blanks text) ≡ Some (label, rest)
 read_label_at text rest label t = terminal_read IsBlankNodeLabel read_label label-reads text rest label t
 
-read_string_at : (text rest lexical : List ℕ) → Terminal IsString text lexical rest → read_string (after_blanks text) ≡ Some (lexical, rest)
-read_string_at text rest lexical t = terminal_read IsString read_string string-reads text rest lexical t
+read_string_at : (text rest lexical : List ℕ) → Terminal (IsString quotation_mark) text lexical rest → read_string quotation_mark (after_blanks text) ≡ Some (lexical, rest)
+read_string_at text rest lexical t = terminal_read (IsString quotation_mark) (read_string quotation_mark) string-reads text rest lexical t
 
 read_langtag_at : (text rest tag : List ℕ) → Terminal IsLangtag text tag rest → read_langtag (after_blanks text) ≡ Some (tag, rest)
 read_langtag_at text rest tag t = terminal_read IsLangtag read_langtag langtag-reads text rest tag t
@@ -67,7 +70,7 @@ label_begins text rest label e =
     let (front, (is, spelled), split) = label-reads.sound text rest label e in
     (colon ∷ (label ++ rest), split ∙ ap (λ xs. xs ++ rest) spelled)
 
-string_begins : (text rest lexical : List ℕ) → read_string text ≡ Some (lexical, rest) → Begins quotation_mark text
+string_begins : (text rest lexical : List ℕ) → read_string quotation_mark text ≡ Some (lexical, rest) → Begins quotation_mark text
 string_begins text rest lexical e =
     let (front, (body, star, spelled), split) = string-reads.sound text rest lexical e in
     ((body ++ 34 ∷ []) ++ rest, split ∙ ap (λ xs. xs ++ rest) spelled)
@@ -150,7 +153,7 @@ literal_of-other lexical datatype other =
       | false ↦ λ e. refl
     ] refl
 
-tag_found : (text end rest lexical start : List ℕ) (term : RdfTerm) → Terminal IsString text lexical end → after_blanks end ≡ start → read_tag lexical start ≡ Some (term, rest) → IsObject text term rest
+tag_found : (text end rest lexical start : List ℕ) (term : RdfTerm) → Terminal (IsString quotation_mark) text lexical end → after_blanks end ≡ start → read_tag lexical start ≡ Some (term, rest) → IsObject text term rest
 unfolding read_tag
 tag_found text end rest lexical start term t begins e =
     let (tag, found, same) = made (tagged lexical) (read_langtag start) term rest e in
@@ -160,18 +163,18 @@ mark_at : (end others mark : List ℕ) → after_blanks end ≡ circumflex ∷ o
 mark_at end others mark begins e =
     terminal_found (IsMark (circumflex ∷ circumflex ∷ [])) read_datatype_mark datatype_mark-reads end mark tt (ap read_datatype_mark begins ∙ rw e refl)
 
-datatype_found : (text end rest lexical others : List ℕ) (term : RdfTerm) → Terminal IsString text lexical end → after_blanks end ≡ circumflex ∷ others → read_datatype lexical others ≡ Some (term, rest) → IsObject text term rest
+datatype_found : (text end rest lexical others : List ℕ) (term : RdfTerm) → Terminal (IsString quotation_mark) text lexical end → after_blanks end ≡ circumflex ∷ others → read_datatype lexical others ≡ Some (term, rest) → IsObject text term rest
 unfolding read_datatype
 datatype_found text end rest lexical others term t begins e =
     option_and_then_some _ (after_char circumflex others) (term, rest) e (λ mark mark_is e.
     let (datatype, found, same) = made (literal_of lexical) (read_iri_ref (after_blanks mark)) term rest e in
     subst (λ u. IsObject text u rest) same (literal_of-object text lexical datatype rest (end, mark, t, mark_at end others mark begins mark_is, iri_at mark rest datatype found)))
 
-tail_found : (text end rest lexical start : List ℕ) (term : RdfTerm) → Terminal IsString text lexical end → after_blanks end ≡ start → read_tail lexical end start ≡ Some (term, rest) → IsObject text term rest
+tail_found : (text end rest lexical start : List ℕ) (term : RdfTerm) → Terminal (IsString quotation_mark) text lexical end → after_blanks end ≡ start → read_tail lexical end start ≡ Some (term, rest) → IsObject text term rest
 unfolding read_tail
 tail_found text end rest lexical [] term t begins e =
     let (same, ends) = some_pair_parts (plain lexical) term end rest e in
-    subst (λ u. IsObject text u rest) same (inl (subst (λ xs. Terminal IsString text lexical xs) ends t))
+    subst (λ u. IsObject text u rest) same (inl (subst (λ xs. Terminal (IsString quotation_mark) text lexical xs) ends t))
 tail_found text end rest lexical (c ∷ cs) term t begins e =
     elim (c == at_sign) as (λ b. ◌≡◌ {A = Option (RdfTerm × List ℕ)} (if b then read_tag lexical (c ∷ cs) else (if c == circumflex then read_datatype lexical cs else Some (plain lexical, end))) (Some (term, rest)) → IsObject text term rest) [
       | true ↦ λ h. tag_found text end rest lexical (c ∷ cs) term t begins h
@@ -180,14 +183,14 @@ tail_found text end rest lexical (c ∷ cs) term t begins e =
             | true ↦ λ f k. datatype_found text end rest lexical cs term t (begins ∙ ap (λ x. x ∷ cs) (eqb-true c circumflex f)) k
             | false ↦ λ f k.
                 let (same, ends) = some_pair_parts (plain lexical) term end rest k in
-                subst (λ u. IsObject text u rest) same (inl (subst (λ xs. Terminal IsString text lexical xs) ends t))
+                subst (λ u. IsObject text u rest) same (inl (subst (λ xs. Terminal (IsString quotation_mark) text lexical xs) ends t))
           ] refl h
     ] e
 
 literal_found : (text rest : List ℕ) (term : RdfTerm) → read_literal (after_blanks text) ≡ Some (term, rest) → IsObject text term rest
 unfolding read_literal
 literal_found text rest term e =
-    option_and_then_some _ (read_string (after_blanks text)) (term, rest) e (λ string found e.
+    option_and_then_some _ (read_string quotation_mark (after_blanks text)) (term, rest) e (λ string found e.
     tail_found text string.1 rest string.0 (after_blanks string.1) term (string_at text string.1 string.0 found) refl e)
 
 pub object_found : (text rest : List ℕ) (term : RdfTerm) → read_object text ≡ Some (term, rest) → IsObject text term rest
@@ -224,11 +227,11 @@ langtag_begins text rest tag e =
     let (front, (written, is, lower, spelled), split) = langtag-reads.sound text rest tag e in
     (written ++ rest, split ∙ ap (λ xs. xs ++ rest) spelled)
 
-read_literal-string : (text end rest lexical : List ℕ) (term : RdfTerm) → read_string text ≡ Some (lexical, end) → read_tail lexical end (after_blanks end) ≡ Some (term, rest) → read_literal text ≡ Some (term, rest)
+read_literal-string : (text end rest lexical : List ℕ) (term : RdfTerm) → read_string quotation_mark text ≡ Some (lexical, end) → read_tail lexical end (after_blanks end) ≡ Some (term, rest) → read_literal text ≡ Some (term, rest)
 unfolding read_literal
 read_literal-string text end rest lexical term string tail = rw string tail
 
-read_object-literal : (text end rest lexical : List ℕ) (term : RdfTerm) → Terminal IsString text lexical end → read_tail lexical end (after_blanks end) ≡ Some (term, rest) → read_object text ≡ Some (term, rest)
+read_object-literal : (text end rest lexical : List ℕ) (term : RdfTerm) → Terminal (IsString quotation_mark) text lexical end → read_tail lexical end (after_blanks end) ≡ Some (term, rest) → read_object text ≡ Some (term, rest)
 unfolding read_object
 read_object-literal text end rest lexical term t tail =
     let string = read_string_at text end lexical t in

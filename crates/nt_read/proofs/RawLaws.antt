@@ -14,12 +14,14 @@ use Rattle.bm_term.specs.Repetition.{Star}
 use Rattle.bm_term.specs.Text.{after_char, after_run, before, HasRest}
 use Rattle.bm_term.proofs.TextLemmas.{after_char-some, after_run-split, before-append, length-after_run}
 use Rattle.nt_read.specs.Found.{is_raw_char, behind_first}
-use Rattle.nt_read.specs.Pieces.{pieces, values, after_values}
-use Rattle.nt_read.specs.Terminals.{IsIriPiece, IsStringPiece, is_string_char}
-use Rattle.nt_read.specs.TerminalReading.{iri_piece, string_piece, read_iri_ref, read_string, read_label}
-use Rattle.nt_read.proofs.PieceLaws.{passed, passed_to_end}
-use Rattle.nt_read.proofs.CharacterLaws.{iri_piece-forward, iri_piece-over, iri_piece-closed, string_piece-forward, string_piece-over, string_piece-closed}
-use Rattle.nt_read.proofs.TerminalRules.{iri_ref-again, string-again}
+use Rattle.rdf_escapes.specs.Iris.{IsIriPiece}
+use Rattle.rdf_escapes.specs.Pieces.{values}
+use Rattle.rdf_escapes.specs.Reading.{iri_piece, string_piece, read_iri_ref, read_string}
+use Rattle.rdf_escapes.specs.Strings.{IsStringPiece, is_string_char}
+use Rattle.nt_read.specs.TerminalReading.{read_label}
+use Rattle.rdf_escapes.proofs.PieceLaws.{passed_to_end}
+use Rattle.rdf_escapes.proofs.CharacterLaws.{iri_piece-forward, iri_piece-over, iri_piece-closed, string_piece-forward, string_piece-over, string_piece-closed}
+use Rattle.rdf_escapes.proofs.SpellingLaws.{iri_ref-again, string-again}
 
 -- a run between two marks stands in front of a text
 pub record BeginsWithRun (p : ℕ → Bool) (opening closing : ℕ) (text rest : List ℕ) : Type 0 where
@@ -55,12 +57,12 @@ raw_pieces p P raw (c ∷ cs) all =
 raw_iri : (run : List ℕ) → list_all is_irichar run ≡ true → Star IsIriPiece run run
 raw_iri run all = raw_pieces is_irichar IsIriPiece (λ c member. (member, inl refl)) run all
 
-raw_char_is_string_char : (c : ℕ) → is_raw_char c ≡ true → is_string_char c ≡ true
+raw_char_is_string_char : (c : ℕ) → is_raw_char c ≡ true → is_string_char quotation_mark c ≡ true
 unfolding is_raw_char is_string_char escape_letter
 raw_char_is_string_char c e = grind (arith, nat_tests)
 
-raw_string : (run : List ℕ) → list_all is_raw_char run ≡ true → Star IsStringPiece run run
-raw_string run all = raw_pieces is_raw_char IsStringPiece (λ c member. inl (raw_char_is_string_char c member, refl)) run all
+raw_string : (run : List ℕ) → list_all is_raw_char run ≡ true → Star (IsStringPiece quotation_mark) run run
+raw_string run all = raw_pieces is_raw_char (IsStringPiece quotation_mark) (λ c member. inl (raw_char_is_string_char c member, refl)) run all
 
 -- so it stands for itself
 pub iri_run_values : (text rest : List ℕ) (begins : BeginsWithRun is_irichar less_than greater_than text rest) → values iri_piece (behind_first (before text rest)) ≡ begins.run
@@ -68,10 +70,10 @@ iri_run_values text rest begins =
     ap (λ xs. values iri_piece (behind_first xs)) begins.cut
     ∙ ap (λ (p : List ℕ × List ℕ). p.0) (passed_to_end iri_piece iri_piece-forward IsIriPiece iri_piece-over begins.run begins.run (greater_than ∷ []) (raw_iri begins.run begins.all) (iri_piece-closed []))
 
-pub string_run_values : (text rest : List ℕ) (begins : BeginsWithRun is_raw_char quotation_mark quotation_mark text rest) → values string_piece (behind_first (before text rest)) ≡ begins.run
+pub string_run_values : (text rest : List ℕ) (begins : BeginsWithRun is_raw_char quotation_mark quotation_mark text rest) → values (string_piece quotation_mark) (behind_first (before text rest)) ≡ begins.run
 string_run_values text rest begins =
-    ap (λ xs. values string_piece (behind_first xs)) begins.cut
-    ∙ ap (λ (p : List ℕ × List ℕ). p.0) (passed_to_end string_piece string_piece-forward IsStringPiece string_piece-over begins.run begins.run (quotation_mark ∷ []) (raw_string begins.run begins.all) (string_piece-closed []))
+    ap (λ xs. values (string_piece quotation_mark) (behind_first xs)) begins.cut
+    ∙ ap (λ (p : List ℕ × List ℕ). p.0) (passed_to_end (string_piece quotation_mark) (string_piece-forward quotation_mark) (IsStringPiece quotation_mark) (string_piece-over quotation_mark) begins.run begins.run (quotation_mark ∷ []) (raw_string begins.run begins.all) (string_piece-closed quotation_mark [] refl))
 
 -- and is read so
 pub iri_run_is_read : (text rest : List ℕ) → BeginsWithRun is_irichar less_than greater_than text rest → ◌≡◌ {A = Option (List ℕ × List ℕ)} (Some (values iri_piece (behind_first (before text rest)), rest)) (read_iri_ref text)
@@ -79,10 +81,10 @@ iri_run_is_read text rest begins =
     rw (iri_run_values text rest begins)
     (sym (ap read_iri_ref begins.split ∙ iri_ref-again (less_than ∷ (begins.run ++ greater_than ∷ [])) rest begins.run (begins.run, raw_iri begins.run begins.all, refl)))
 
-pub string_run_is_read : (text rest : List ℕ) → BeginsWithRun is_raw_char quotation_mark quotation_mark text rest → ◌≡◌ {A = Option (List ℕ × List ℕ)} (Some (values string_piece (behind_first (before text rest)), rest)) (read_string text)
+pub string_run_is_read : (text rest : List ℕ) → BeginsWithRun is_raw_char quotation_mark quotation_mark text rest → ◌≡◌ {A = Option (List ℕ × List ℕ)} (Some (values (string_piece quotation_mark) (behind_first (before text rest)), rest)) (read_string quotation_mark text)
 string_run_is_read text rest begins =
     rw (string_run_values text rest begins)
-    (sym (ap read_string begins.split ∙ string-again (quotation_mark ∷ (begins.run ++ quotation_mark ∷ [])) rest begins.run (begins.run, raw_string begins.run begins.all, refl)))
+    (sym (ap (read_string quotation_mark) begins.split ∙ string-again quotation_mark (quotation_mark ∷ (begins.run ++ quotation_mark ∷ [])) rest begins.run refl (begins.run, raw_string begins.run begins.all, refl)))
 
 -- its text is the canonical one
 pub iri_run_is_canonical : (text rest : List ℕ) → BeginsWithRun is_irichar less_than greater_than text rest → before text rest ≡ canonical_chars (iri (values iri_piece (behind_first (before text rest))))
@@ -101,54 +103,11 @@ escaped-raw (c ∷ cs) all =
     let (first, others) = and_parts (is_raw_char c) (list_all is_raw_char cs) all in
     rw (raw_is_unescaped c first, escaped-raw cs others) refl
 
-pub string_run_is_canonical : (text rest : List ℕ) → BeginsWithRun is_raw_char quotation_mark quotation_mark text rest → before text rest ≡ canonical_chars (plain (values string_piece (behind_first (before text rest))))
+pub string_run_is_canonical : (text rest : List ℕ) → BeginsWithRun is_raw_char quotation_mark quotation_mark text rest → before text rest ≡ canonical_chars (plain (values (string_piece quotation_mark) (behind_first (before text rest))))
 string_run_is_canonical text rest begins =
     begins.cut
     ∙ ap (λ cs. quotation_mark ∷ (cs ++ quotation_mark ∷ [])) (sym (escaped-raw begins.run begins.all))
     ∙ ap (λ cs. quotation_mark ∷ (escaped cs ++ quotation_mark ∷ [])) (sym (string_run_values text rest begins))
-
--- what stands raw in front of a text
-pub record RawPrefix (text : List ℕ) : Type 0 where
-  pub run : List ℕ
-  pub has : HasRest text (after_run is_raw_char text)
-  pub cut : before text (after_run is_raw_char text) ≡ run
-  pub raw : escaped run ≡ run
-  pub found : values string_piece text ≡ run ++ values string_piece (after_run is_raw_char text)
-  pub after : after_values string_piece text ≡ after_values string_piece (after_run is_raw_char text)
-
-pub raw_prefix : (text : List ℕ) → RawPrefix text
-raw_prefix text =
-    let (run, all, split) = after_run-split is_raw_char text in
-    let end = after_run is_raw_char text in
-    let read = ap (pieces string_piece) split ∙ passed string_piece string_piece-forward IsStringPiece string_piece-over run run end (raw_string run all) in
-    record {
-      run = run;
-      has = (run, split);
-      cut = ap (λ xs. before xs end) split ∙ before-append run end;
-      raw = escaped-raw run all;
-      found = ap (λ (p : List ℕ × List ℕ). p.0) read;
-      after = ap (λ (p : List ℕ × List ℕ). p.1) read;
-    }
-
-pub after_raw_values : (text : List ℕ) → after_values string_piece (after_run is_raw_char text) ≡ after_values string_piece text
-after_raw_values text = sym (raw_prefix text).after
-
-pub length-after_raw : (text : List ℕ) → length (after_run is_raw_char text) ≤ length text
-length-after_raw text = length-after_run is_raw_char text
-
-pub ruleset raw_strings = (after_raw_values, length-after_raw)
-
--- what is written of it, raw, leaves the rest to be written
-pub raw_is_written : (text front rest out new : List ℕ) → chars front ≡ before text rest → rest ≡ after_run is_raw_char text → IsUtf8 front → new ≡ out ++ front
-    → new ++ encode_utf8_all (escaped (values string_piece rest)) ≡ out ++ encode_utf8_all (escaped (values string_piece text))
-raw_is_written text front rest out new cut end utf8 pushed =
-    let prefix = raw_prefix text in
-    let run : front ≡ encode_utf8_all prefix.run = sym (encodes-chars front utf8) ∙ ap encode_utf8_all (cut ∙ ap (before text) end ∙ prefix.cut) in
-    let spelled : escaped (values string_piece text) ≡ prefix.run ++ escaped (values string_piece rest) =
-    ap escaped prefix.found ∙ flat_map-append spelling prefix.run (values string_piece (after_run is_raw_char text)) ∙ ap (λ xs. xs ++ escaped (values string_piece (after_run is_raw_char text))) prefix.raw ∙ ap (λ xs. prefix.run ++ escaped (values string_piece xs)) (sym end) in
-    ap (λ xs. xs ++ encode_utf8_all (escaped (values string_piece rest))) (pushed ∙ ap (λ xs. out ++ xs) run)
-    ∙ append_assoc out (encode_utf8_all prefix.run) (encode_utf8_all (escaped (values string_piece rest)))
-    ∙ ap (λ xs. out ++ xs) (sym (ap encode_utf8_all spelled ∙ encodes-append prefix.run (escaped (values string_piece rest))))
 
 -- a label with its mark stands in front of a text
 pub record BeginsWithLabel (text rest : List ℕ) : Type 0 where

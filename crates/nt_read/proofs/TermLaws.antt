@@ -1,49 +1,23 @@
 -- What terminals stand for are terms.
-use Rattle.std.proofs.Common.{◌≡◌, ℕ, true, ◌||◌, ◌==◌, not, inl, inr, Some, List, [], ◌∷◌, refl, ◌∙◌, sym, arith}
-use Rattle.std.proofs.lemmas.Bool.{and_parts}
-use Rattle.std.proofs.lemmas.Bool.Decides.{nat_tests}
-use Rattle.std.specs.Cmp.Derive.{both_true}
+use Rattle.std.proofs.Common.{◌≡◌, ℕ, true, inl, inr, List}
 use Rattle.std.specs.List.{list_all}
 use Rattle.std.specs.Str.{all_scalars}
-use lib.Utf8.{scalar}
 use Rattle.bm_term.specs.Classes.{is_scalar, is_irichar}
-use Rattle.bm_term.specs.Escapes.{echar_value}
-use Rattle.bm_term.specs.Marks.{quotation_mark, backslash, line_feed, carriage_return}
-use Rattle.bm_term.specs.Repetition.{Star}
+use Rattle.bm_term.specs.Marks.{quotation_mark}
 use Rattle.bm_term.specs.Canonical.{RdfTerm, iri, blank, plain, tagged, typed, IsTerm, IsLowerTag}
 use Rattle.bm_term.proofs.LowerTags.{IsLowerTag-lowercase}
-use Rattle.nt_read.specs.Terminals.{IsIriPiece, IsIriRef, IsStringPiece, IsString, IsLangtag, is_string_char}
-use Rattle.nt_read.proofs.EscapeLaws.{is_scalar-scalar}
+use Rattle.rdf_escapes.specs.Iris.{IsIriPiece, IsIriRef}
+use Rattle.rdf_escapes.specs.Strings.{IsStringPiece, IsString}
+use Rattle.rdf_escapes.proofs.Members.{members_of, scalars_are_characters, string_piece_is_scalar}
+use Rattle.nt_read.specs.Terminals.{IsLangtag}
 use Rattle.nt_read.specs.Line.{IsSubject, IsPredicate, IsObject}
 
-string_char_is_scalar : (c : ℕ) → is_string_char c ≡ true → scalar c ≡ true
-unfolding is_string_char
-string_char_is_scalar c e =
-    let (is, others) = and_parts (is_scalar c) (not (c == quotation_mark || c == backslash || c == line_feed || c == carriage_return)) e in
-    sym (is_scalar-scalar c) ∙ is
-
-echar_is_scalar : (letter c : ℕ) → echar_value letter ≡ Some c → scalar c ≡ true
-unfolding echar_value
-echar_is_scalar letter c e = grind (arith, nat_tests)
-
-string_piece_is_scalar : (text : List ℕ) (c : ℕ) → IsStringPiece text c → scalar c ≡ true
-string_piece_is_scalar text c (inl (member, raw)) = string_char_is_scalar c member
-string_piece_is_scalar text c (inr (inl (letter, value, spelled))) = echar_is_scalar letter c value
-string_piece_is_scalar text c (inr (inr is)) = sym (is_scalar-scalar c) ∙ is.scalar
-
-string_scalars : (lexical body : List ℕ) → Star IsStringPiece body lexical → all_scalars lexical ≡ true
-string_scalars [] body star = refl
-string_scalars (c ∷ cs) body (front, rest, piece, star, split) = both_true (string_piece_is_scalar front c piece) (string_scalars cs rest star)
-
-pub iri_members : (iri body : List ℕ) → Star IsIriPiece body iri → list_all is_irichar iri ≡ true
-iri_members [] body star = refl
-iri_members (c ∷ cs) body (front, rest, piece, star, split) = both_true piece.0 (iri_members cs rest star)
-
-lexical_scalars : (text lexical : List ℕ) → IsString text lexical → all_scalars lexical ≡ true
-lexical_scalars text lexical (body, star, spelled) = string_scalars lexical body star
+lexical_scalars : (text lexical : List ℕ) → IsString quotation_mark text lexical → all_scalars lexical ≡ true
+lexical_scalars text lexical (body, star, spelled) =
+    scalars_are_characters lexical (members_of (IsStringPiece quotation_mark) is_scalar (string_piece_is_scalar quotation_mark) lexical body star)
 
 iri_has_members : (text iri : List ℕ) → IsIriRef text iri → list_all is_irichar iri ≡ true
-iri_has_members text cs (body, star, spelled) = iri_members cs body star
+iri_has_members text cs (body, star, spelled) = members_of IsIriPiece is_irichar (λ piece c is. is.0) cs body star
 
 tag_is_lower : (text tag : List ℕ) → IsLangtag text tag → IsLowerTag tag
 tag_is_lower text tag (written, is, lower, spelled) = rw lower (IsLowerTag-lowercase written is)

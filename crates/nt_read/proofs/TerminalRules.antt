@@ -1,24 +1,24 @@
 -- How each terminal of a line is read.
-use Rattle.std.proofs.Common.{◌≡◌, ℕ, ◌≤◌, true, false, ◌==◌, if◌then◌else◌, Option, Some, None, List, [], ◌∷◌, ◌++◌, map, length, refl, ap, subst, ◌∙◌, sym, append_assoc}
+use Rattle.std.proofs.Common.{◌≡◌, ℕ, ◌≤◌, true, false, ◌==◌, if◌then◌else◌, Option, Some, None, List, [], ◌∷◌, ◌++◌, map, length, refl, ap, subst, ◌∙◌, sym}
 use Rattle.std.proofs.lemmas.Bool.{eqb-true}
 use Rattle.std.proofs.lemmas.Option.{option_and_then_some, some_pair_parts}
 use Rattle.std.specs.Char.{to_ascii_lowercase}
 use Rattle.std.specs.Option.{option_map}
 use Rattle.bm_term.specs.Classes.{is_letter, is_alphanumeric, is_nt_label_first, is_nt_pn_chars}
 use Rattle.bm_term.specs.Canonical.{IsLabel}
-use Rattle.bm_term.specs.Marks.{quotation_mark, colon, less_than, greater_than, at_sign, full_stop, circumflex, low_line}
+use Rattle.bm_term.specs.Marks.{quotation_mark, colon, less_than, at_sign, full_stop, circumflex, low_line}
 use Rattle.bm_term.specs.Names.{after_dotted_name, after_language_tag}
-use Rattle.bm_term.specs.Repetition.{Star}
 use Rattle.bm_term.specs.Text.{after_char, before}
 use Rattle.bm_term.proofs.DottedNames.{after_dotted_name-sound, after_dotted_name-reaches}
 use Rattle.bm_term.proofs.LanguageTags.{no_letter, no_alphanumeric, after_language_tag-sound, after_language_tag-reaches}
 use Rattle.bm_term.proofs.TextLemmas.{after_char-some, before-append}
-use Rattle.nt_read.specs.Pieces.{values, after_values}
-use Rattle.nt_read.specs.Terminals.{IsIriPiece, IsIriRef, IsStringPiece, IsString, IsLangtag, IsBlankNodeLabel, IsMark, is_blank}
+use Rattle.rdf_escapes.specs.Iris.{IsIriRef}
+use Rattle.rdf_escapes.specs.Reading.{read_iri_ref, read_string}
+use Rattle.rdf_escapes.specs.Strings.{IsString}
+use Rattle.rdf_escapes.proofs.SpellingLaws.{iri_ref-sound, iri_ref-again, string-sound, string-again}
+use Rattle.nt_read.specs.Terminals.{IsLangtag, IsBlankNodeLabel, IsMark, is_blank}
 use Rattle.bm_term.specs.Reading.{◌>>=◌}
-use Rattle.nt_read.specs.TerminalReading.{iri_piece, string_piece, read_iri_body, read_iri_ref, read_string_body, read_string, read_langtag, read_label}
-use Rattle.nt_read.proofs.PieceLaws.{splits, passed_to_end}
-use Rattle.nt_read.proofs.CharacterLaws.{iri_piece-passes, iri_piece-forward, iri_piece-over, iri_piece-closed, string_piece-passes, string_piece-forward, string_piece-over, string_piece-closed}
+use Rattle.nt_read.specs.TerminalReading.{read_langtag, read_label}
 use Rattle.nt_read.proofs.TerminalLaws.{Reads, reads_exactly}
 
 blank_is_other : (mark : ℕ) → is_blank mark ≡ false → (c : ℕ) (cs : List ℕ) → is_blank c ≡ true → after_char mark (c ∷ cs) ≡ None
@@ -28,37 +28,7 @@ blank_is_other mark other c cs is =
       | false ↦ λ e. refl
     ] refl
 
--- text between an opening and a closing mark
-pub enclosed : (open_mark close : ℕ) (body rest : List ℕ) → (open_mark ∷ (body ++ close ∷ [])) ++ rest ≡ open_mark ∷ (body ++ close ∷ rest)
-enclosed open_mark close body rest = ap (λ xs. open_mark ∷ xs) (append_assoc body (close ∷ []) rest)
-
 -- IRIREF
-iri_ref-sound : (text rest iri : List ℕ) → read_iri_ref text ≡ Some (iri, rest) → (front : List ℕ) × IsIriRef front iri × (text ≡ front ++ rest)
-unfolding read_iri_ref read_iri_body
-iri_ref-sound text rest iri e =
-    option_and_then_some _ (after_char less_than text) (iri, rest) e (λ body opens e.
-    option_and_then_some _ (after_char greater_than (after_values iri_piece body)) (iri, rest) e (λ end closes e.
-    let (same, ends) = some_pair_parts (values iri_piece body) iri end rest e in
-    let (front, star, split) = splits iri_piece iri_piece-forward IsIriPiece iri_piece-passes body in (
-      less_than ∷ (front ++ greater_than ∷ []),
-      (front, rw (← same) star, refl),
-      after_char-some less_than text body opens
-          ∙ ap (λ xs. less_than ∷ xs) (split ∙ ap (λ xs. front ++ xs) (after_char-some greater_than (after_values iri_piece body) end closes ∙ ap (λ xs. greater_than ∷ xs) ends))
-          ∙ sym (enclosed less_than greater_than front rest),
-    )))
-
-iri_ref-closed : (body rest iri : List ℕ) → Star IsIriPiece body iri → read_iri_ref (less_than ∷ (body ++ greater_than ∷ rest)) ≡ Some (iri, rest)
-unfolding read_iri_ref read_iri_body
-iri_ref-closed body rest iri star =
-    let all = passed_to_end iri_piece iri_piece-forward IsIriPiece iri_piece-over iri body (greater_than ∷ rest) star (iri_piece-closed rest) in
-    let found : values iri_piece (body ++ greater_than ∷ rest) ≡ iri = ap (λ (p : List ℕ × List ℕ). p.0) all in
-    let end : after_values iri_piece (body ++ greater_than ∷ rest) ≡ greater_than ∷ rest = ap (λ (p : List ℕ × List ℕ). p.1) all in
-    rw (end, found) refl
-
-pub iri_ref-again : (text rest iri : List ℕ) → IsIriRef text iri → read_iri_ref (text ++ rest) ≡ Some (iri, rest)
-iri_ref-again text rest iri (body, star, spelled) =
-    ap read_iri_ref (ap (λ xs. xs ++ rest) spelled ∙ enclosed less_than greater_than body rest) ∙ iri_ref-closed body rest iri star
-
 iri_ref-nil : read_iri_ref [] ≡ None
 unfolding read_iri_ref
 iri_ref-nil = refl
@@ -71,42 +41,18 @@ pub iri_ref-reads : Reads IsIriRef read_iri_ref
 iri_ref-reads = reads_exactly IsIriRef read_iri_ref iri_ref-sound iri_ref-again iri_ref-nil iri_ref-blank
 
 -- STRING_LITERAL_QUOTE
-string-sound : (text rest lexical : List ℕ) → read_string text ≡ Some (lexical, rest) → (front : List ℕ) × IsString front lexical × (text ≡ front ++ rest)
-unfolding read_string read_string_body
-string-sound text rest lexical e =
-    option_and_then_some _ (after_char quotation_mark text) (lexical, rest) e (λ body opens e.
-    option_and_then_some _ (after_char quotation_mark (after_values string_piece body)) (lexical, rest) e (λ end closes e.
-    let (same, ends) = some_pair_parts (values string_piece body) lexical end rest e in
-    let (front, star, split) = splits string_piece string_piece-forward IsStringPiece string_piece-passes body in (
-      quotation_mark ∷ (front ++ quotation_mark ∷ []),
-      (front, rw (← same) star, refl),
-      after_char-some quotation_mark text body opens
-          ∙ ap (λ xs. quotation_mark ∷ xs) (split ∙ ap (λ xs. front ++ xs) (after_char-some quotation_mark (after_values string_piece body) end closes ∙ ap (λ xs. quotation_mark ∷ xs) ends))
-          ∙ sym (enclosed quotation_mark quotation_mark front rest),
-    )))
-
-string-closed : (body rest lexical : List ℕ) → Star IsStringPiece body lexical → read_string (quotation_mark ∷ (body ++ quotation_mark ∷ rest)) ≡ Some (lexical, rest)
-unfolding read_string read_string_body
-string-closed body rest lexical star =
-    let all = passed_to_end string_piece string_piece-forward IsStringPiece string_piece-over lexical body (quotation_mark ∷ rest) star (string_piece-closed rest) in
-    let found : values string_piece (body ++ quotation_mark ∷ rest) ≡ lexical = ap (λ (p : List ℕ × List ℕ). p.0) all in
-    let end : after_values string_piece (body ++ quotation_mark ∷ rest) ≡ quotation_mark ∷ rest = ap (λ (p : List ℕ × List ℕ). p.1) all in
-    rw (end, found) refl
-
-pub string-again : (text rest lexical : List ℕ) → IsString text lexical → read_string (text ++ rest) ≡ Some (lexical, rest)
-string-again text rest lexical (body, star, spelled) =
-    ap read_string (ap (λ xs. xs ++ rest) spelled ∙ enclosed quotation_mark quotation_mark body rest) ∙ string-closed body rest lexical star
-
-string-nil : read_string [] ≡ None
+string-nil : read_string quotation_mark [] ≡ None
 unfolding read_string
 string-nil = refl
 
-string-blank : (c : ℕ) (cs : List ℕ) → is_blank c ≡ true → read_string (c ∷ cs) ≡ None
+string-blank : (c : ℕ) (cs : List ℕ) → is_blank c ≡ true → read_string quotation_mark (c ∷ cs) ≡ None
 unfolding read_string is_blank
 string-blank c cs is = rw (blank_is_other quotation_mark refl c cs is) refl
 
-pub string-reads : Reads IsString read_string
-string-reads = reads_exactly IsString read_string string-sound string-again string-nil string-blank
+pub string-reads : Reads (IsString quotation_mark) (read_string quotation_mark)
+string-reads =
+    reads_exactly (IsString quotation_mark) (read_string quotation_mark) (string-sound quotation_mark)
+    (λ front more v is. string-again quotation_mark front more v refl is) string-nil string-blank
 
 -- LANGTAG
 langtag-sound : (text rest tag : List ℕ) → read_langtag text ≡ Some (tag, rest) → (front : List ℕ) × IsLangtag front tag × (text ≡ front ++ rest)

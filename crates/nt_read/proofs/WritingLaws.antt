@@ -5,34 +5,10 @@ use Rattle.std.specs.Str.{encode_utf8_all}
 use Rattle.std.specs.Char.{to_ascii_lowercase}
 use Rattle.std.proofs.lemmas.Option.{some_pair_parts}
 use Rattle.std.proofs.lemmas.Str.{encodes-append, encodes-chars}
-use Rattle.bm_term.specs.Canonical.{RdfTerm, spelling, escaped, canonical_text}
+use Rattle.bm_term.specs.Canonical.{RdfTerm, canonical_text}
 use Rattle.bm_term.specs.Text.{uncons}
+use Rattle.rdf_escapes.proofs.WritingLaws.{appended}
 use Rattle.nt_read.specs.Found.{IsRawTextOf}
-use Rattle.nt_read.specs.Pieces.{values}
-use Rattle.nt_read.specs.TerminalReading.{iri_piece, string_piece}
-use Rattle.nt_read.proofs.CharacterLaws.{iri_values-more, iri_values-none, string_values-more, string_values-none}
-
-appended : (out new front others all total : List ℕ) → new ≡ out ++ front → all ≡ front ++ others → out ++ all ≡ total → new ++ others ≡ total
-appended out new front others all total pushed split before =
-    ap (λ xs. xs ++ others) pushed ∙ append_assoc out front others ∙ ap (λ xs. out ++ xs) (sym split) ∙ before
-
-pub iri_step : (out new rest after total : List ℕ) (c : ℕ) → new ≡ out ++ encode_utf8 c → ◌≡◌ {A = Option (ℕ × List ℕ)} (Some (c, after)) (iri_piece rest) → out ++ encode_utf8_all (values iri_piece rest) ≡ total → new ++ encode_utf8_all (values iri_piece after) ≡ total
-iri_step out new rest after total c pushed step before =
-    appended out new (encode_utf8 c) (encode_utf8_all (values iri_piece after)) (encode_utf8_all (values iri_piece rest)) total pushed
-    (ap encode_utf8_all (iri_values-more rest after c (sym step))) before
-
-pub iri_end : (out rest total : List ℕ) → None ≡ iri_piece rest → out ++ encode_utf8_all (values iri_piece rest) ≡ total → out ≡ total
-iri_end out rest total none before =
-    sym (append-nil out) ∙ ap (λ xs. out ++ encode_utf8_all xs) (sym (iri_values-none rest (sym none))) ∙ before
-
-pub string_step : (out new rest after total : List ℕ) (c : ℕ) → new ≡ out ++ encode_utf8_all (spelling c) → ◌≡◌ {A = Option (ℕ × List ℕ)} (Some (c, after)) (string_piece rest) → out ++ encode_utf8_all (escaped (values string_piece rest)) ≡ total → new ++ encode_utf8_all (escaped (values string_piece after)) ≡ total
-string_step out new rest after total c pushed step before =
-    appended out new (encode_utf8_all (spelling c)) (encode_utf8_all (escaped (values string_piece after))) (encode_utf8_all (escaped (values string_piece rest))) total pushed
-    (ap (λ cs. encode_utf8_all (escaped cs)) (string_values-more rest after c (sym step)) ∙ encodes-append (spelling c) (escaped (values string_piece after))) before
-
-pub string_end : (out rest total : List ℕ) → None ≡ string_piece rest → out ++ encode_utf8_all (escaped (values string_piece rest)) ≡ total → out ≡ total
-string_end out rest total none before =
-    sym (append-nil out) ∙ ap (λ xs. out ++ encode_utf8_all (escaped xs)) (sym (string_values-none rest (sym none))) ∙ before
 
 -- a language tag, in lower case
 pub lower_step : (out new rest after total : List ℕ) (c d : ℕ) → d ≡ to_ascii_lowercase c → new ≡ out ++ encode_utf8 d → ◌≡◌ {A = Option (ℕ × List ℕ)} (Some (c, after)) (uncons rest) → out ++ encode_utf8_all (map to_ascii_lowercase rest) ≡ total → new ++ encode_utf8_all (map to_ascii_lowercase after) ≡ total

@@ -3,6 +3,7 @@ use Rattle.std.specs.Prelude.{◌≡◌, ℕ, Bool, ◌&&◌, ◌||◌, nat_le, 
 use Rattle.std.specs.Char.{to_ascii_lowercase}
 use Rattle.std.specs.Str.{chars, IsUtf8}
 use Rattle.bm_term.specs.Classes.{is_scalar}
+use Rattle.bm_term.specs.Marks.{quotation_mark}
 use Rattle.bm_term.specs.Canonical.{RdfTerm, iri, blank, plain, tagged, IsTerm, escape_letter, canonical_chars}
 use Rattle.bm_term.specs.declared.triple.Triple.{Triple}
 use Rattle.nt_read.specs.declared.found.Quoted.{Quoted}
@@ -12,8 +13,8 @@ use Rattle.nt_read.specs.declared.found.LiteralTail.TheVariants.{Nothing, Tag, D
 use Rattle.nt_read.specs.declared.found.FoundTerm.{FoundTerm}
 use Rattle.nt_read.specs.declared.found.FoundTerm.TheVariants.{Iri, Blank, Literal}
 use Rattle.nt_read.specs.declared.found.FoundTriple.{FoundTriple}
-use Rattle.nt_read.specs.Pieces.{values}
-use Rattle.nt_read.specs.TerminalReading.{iri_piece, string_piece}
+use Rattle.rdf_escapes.specs.Pieces.{values}
+use Rattle.rdf_escapes.specs.Reading.{iri_piece, string_piece}
 use Rattle.nt_read.specs.Line.{triple_of}
 use Rattle.nt_read.specs.LineReading.{literal_of}
 
@@ -35,8 +36,8 @@ iri_of (Raw text) = values iri_piece (behind_first (chars text.now))
 iri_of (Escaped body) = values iri_piece (chars body.now)
 
 unfoldable pub lexical_of : Quoted → List ℕ
-lexical_of (Raw text) = values string_piece (behind_first (chars text.now))
-lexical_of (Escaped body) = values string_piece (chars body.now)
+lexical_of (Raw text) = values (string_piece quotation_mark) (behind_first (chars text.now))
+lexical_of (Escaped body) = values (string_piece quotation_mark) (chars body.now)
 
 -- the label of a blank node, and a language tag, from their texts
 unfoldable pub label_of : List ℕ → List ℕ

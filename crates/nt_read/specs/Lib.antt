@@ -1,9 +1,7 @@
-pub mod Escapes
 pub mod Feeding
 pub mod Found
 pub mod Line
 pub mod LineReading
 pub mod Lines
-pub mod Pieces
 pub mod TerminalReading
 pub mod Terminals

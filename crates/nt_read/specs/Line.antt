@@ -3,9 +3,11 @@
 use Rattle.std.specs.Prelude.{◌≡◌, ◌≢◌, ℕ, ◌⊎◌, List, [], ◌∷◌, ◌++◌}
 use Rattle.std.specs.Str.{chars, IsUtf8}
 use Rattle.bm_term.specs.declared.triple.Triple.{Triple}
-use Rattle.bm_term.specs.Marks.{full_stop, circumflex, number_sign}
+use Rattle.bm_term.specs.Marks.{quotation_mark, full_stop, circumflex, number_sign}
 use Rattle.bm_term.specs.Canonical.{RdfTerm, iri, blank, plain, tagged, typed, xsd_string, canonical_text}
-use Rattle.nt_read.specs.Terminals.{IsIriRef, IsBlankNodeLabel, IsString, IsLangtag, IsMark, AreBlanks, Terminal}
+use Rattle.rdf_escapes.specs.Iris.{IsIriRef}
+use Rattle.rdf_escapes.specs.Strings.{IsString}
+use Rattle.nt_read.specs.Terminals.{IsBlankNodeLabel, IsLangtag, IsMark, AreBlanks, Terminal}
 
 -- subject ::= IRIREF | BLANK_NODE_LABEL
 abbrev pub IsSubject : List ℕ → RdfTerm → List ℕ → Type 0
@@ -26,12 +28,12 @@ IsPredicate whole (typed lexical datatype) rest = ⊥
 -- STRING_LITERAL_QUOTE LANGTAG
 abbrev pub IsTagged : List ℕ → List ℕ → List ℕ → List ℕ → Type 0
 IsTagged whole lexical tag rest =
-    (after_string : List ℕ) × Terminal IsString whole lexical after_string × Terminal IsLangtag after_string tag rest
+    (after_string : List ℕ) × Terminal (IsString quotation_mark) whole lexical after_string × Terminal IsLangtag after_string tag rest
 
 -- STRING_LITERAL_QUOTE '^^' IRIREF
 abbrev pub IsTyped : List ℕ → List ℕ → List ℕ → List ℕ → Type 0
 IsTyped whole lexical datatype rest =
-    (after_string after_mark : List ℕ) × Terminal IsString whole lexical after_string
+    (after_string after_mark : List ℕ) × Terminal (IsString quotation_mark) whole lexical after_string
     × Terminal (IsMark (circumflex ∷ circumflex ∷ [])) after_string tt after_mark × Terminal IsIriRef after_mark datatype rest
 
 -- object ::= IRIREF | BLANK_NODE_LABEL | literal, where literal ::= STRING_LITERAL_QUOTE ('^^' IRIREF | LANGTAG)?
@@ -39,7 +41,7 @@ IsTyped whole lexical datatype rest =
 abbrev pub IsObject : List ℕ → RdfTerm → List ℕ → Type 0
 IsObject whole (iri chars) rest = Terminal IsIriRef whole chars rest
 IsObject whole (blank label) rest = Terminal IsBlankNodeLabel whole label rest
-IsObject whole (plain lexical) rest = Terminal IsString whole lexical rest ⊎ IsTyped whole lexical xsd_string rest
+IsObject whole (plain lexical) rest = Terminal (IsString quotation_mark) whole lexical rest ⊎ IsTyped whole lexical xsd_string rest
 IsObject whole (tagged lexical tag) rest = IsTagged whole lexical tag rest
 IsObject whole (typed lexical datatype) rest = IsTyped whole lexical datatype rest × (datatype ≢ xsd_string)
 

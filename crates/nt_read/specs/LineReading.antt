@@ -3,7 +3,7 @@ use Rattle.std.specs.Prelude.{◌≡◌, ℕ, Bool, true, ◌==◌, if◌then◌
 use Rattle.std.specs.Option.{option_map, option_or}
 use Rattle.std.specs.Str.{chars, is_utf8}
 use Rattle.bm_term.specs.declared.triple.Triple.{Triple}
-use Rattle.bm_term.specs.Marks.{full_stop, at_sign, circumflex, number_sign}
+use Rattle.bm_term.specs.Marks.{quotation_mark, full_stop, at_sign, circumflex, number_sign}
 use Rattle.bm_term.specs.Canonical.{RdfTerm, iri, blank, plain, tagged, typed, xsd_string}
 use Rattle.bm_term.specs.Text.{after_char, after_run}
 use Rattle.nt_read.specs.declared.line.LineFault.{LineFault}
@@ -11,7 +11,8 @@ use Rattle.nt_read.specs.declared.line.LineFault.TheVariants.{Bad, Memory}
 use Rattle.nt_read.specs.Terminals.{is_blank}
 use Rattle.nt_read.specs.Line.{triple_of}
 use Rattle.bm_term.specs.Reading.{◌>>=◌}
-use Rattle.nt_read.specs.TerminalReading.{read_iri_ref, read_string, read_langtag, read_label}
+use Rattle.rdf_escapes.specs.Reading.{read_iri_ref, read_string}
+use Rattle.nt_read.specs.TerminalReading.{read_langtag, read_label}
 
 -- what a line is read as: it may be bad, spell nothing, or spell a triple
 pub data LineReading : Type 0 where
@@ -65,7 +66,7 @@ read_tail lexical text (c ∷ cs) =
 
 unfoldable pub read_literal : ReadTerm
 read_literal text = do
-  string ← read_string text
+  string ← read_string quotation_mark text
   read_tail string.0 string.1 (after_blanks string.1)
 
 unfoldable pub read_object : ReadTerm

@@ -1,36 +1,13 @@
--- The terminals of N-Triples, each with what it stands for. N-Triples 1.1, section 7.
-use Rattle.std.specs.Prelude.{◌≡◌, ℕ, Bool, ◌&&◌, ◌||◌, ◌==◌, not, ◌⊎◌, IsTrue, List, [], ◌∷◌, ◌++◌, map}
+-- The terminals of N-Triples, each with what it stands for. N-Triples 1.1, section 7. Two more are in rdf_escapes: IsIriRef
+-- is IRIREF, and IsString, with the quotation mark, is STRING_LITERAL_QUOTE.
+use Rattle.std.specs.Prelude.{◌≡◌, ℕ, Bool, ◌||◌, ◌==◌, IsTrue, List, ◌∷◌, ◌++◌, map}
 use Rattle.std.specs.Char.{to_ascii_lowercase}
 use Rattle.std.specs.List.{list_all}
-use Rattle.bm_term.specs.Marks.{tab, space, line_feed, carriage_return, quotation_mark, colon, less_than, greater_than, at_sign, backslash, low_line}
-use Rattle.bm_term.specs.Classes.{is_scalar, is_irichar, is_letter, is_alphanumeric}
+use Rattle.bm_term.specs.Marks.{tab, space, colon, at_sign, low_line}
+use Rattle.bm_term.specs.Classes.{is_letter, is_alphanumeric}
 use Rattle.bm_term.specs.Names.{IsLanguageTag}
-use Rattle.bm_term.specs.Repetition.{Star}
 use Rattle.bm_term.specs.Canonical.{IsLabel}
 use Rattle.bm_term.specs.Text.{IsLongest}
-use Rattle.nt_read.specs.Escapes.{IsEchar, IsUchar}
-
--- IRICHAR | UCHAR: the text stands for the character, which in both cases is a member of IRICHAR
-abbrev pub IsIriPiece : List ℕ → ℕ → Type 0
-IsIriPiece text c = IsTrue (is_irichar c) × ((text ≡ c ∷ []) ⊎ IsUchar text c)
-
--- IRIREF ::= '<' (IRICHAR | UCHAR)* '>', with the characters of the IRI
-abbrev pub IsIriRef : List ℕ → List ℕ → Type 0
-IsIriRef text iri = (body : List ℕ) × Star IsIriPiece body iri × (text ≡ less_than ∷ (body ++ greater_than ∷ []))
-
--- [^ " \ LF CR]: every character but these four
-unfoldable pub is_string_char : ℕ → Bool
-is_string_char c =
-    is_scalar c && not (c == quotation_mark || c == backslash || c == line_feed || c == carriage_return)
-
--- [^ " \ LF CR] | ECHAR | UCHAR: the text stands for the character
-abbrev pub IsStringPiece : List ℕ → ℕ → Type 0
-IsStringPiece text c = (IsTrue (is_string_char c) × (text ≡ c ∷ [])) ⊎ (IsEchar text c ⊎ IsUchar text c)
-
--- STRING_LITERAL_QUOTE ::= '"' ([^ " \ LF CR] | ECHAR | UCHAR)* '"', with the lexical form
-abbrev pub IsString : List ℕ → List ℕ → Type 0
-IsString text lexical =
-    (body : List ℕ) × Star IsStringPiece body lexical × (text ≡ quotation_mark ∷ (body ++ quotation_mark ∷ []))
 
 -- LANGTAG ::= '@' [a-zA-Z]+ ('-' [a-zA-Z0-9]+)*, with the tag in lower case
 abbrev pub IsLangtag : List ℕ → List ℕ → Type 0

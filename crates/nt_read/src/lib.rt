@@ -1,9 +1,8 @@
 //! The reader of N-Triples. `read_line` reads what one line spells, which may be a triple, nothing, or bad; a
 //! `Reader` reads the lines of a stream of bytes, and hands their triples to a `Taker`, one by one and in their
-//! order. The grammar is in specs/: the escapes, the terminals, the line, and the lines of a file.
+//! order. The grammar is in specs/: the terminals, the line, and the lines of a file.
 #![tactic(auto)]
 
-mod escapes;
 mod file_laws;
 mod found;
 mod laws;

@@ -1,4 +1,4 @@
-// Runs of characters that are walked byte by byte, and walks over the characters of an IRI and of a string.
+// Runs of characters that are walked byte by byte.
 ghost use Rattle.std.specs.Prelude.{◌≡◌, ℕ, Bool};
 ghost use Rattle.std.specs.List.{list_all};
 ghost use Rattle.std.specs.Str.{chars, IsUtf8};
@@ -6,10 +6,6 @@ ghost use Rattle.bm_term.specs.Classes.{is_irichar};
 ghost use Rattle.bm_term.specs.Reading.{is_iri_byte};
 ghost use Rattle.bm_term.specs.Text.{HasRest, after_run};
 ghost use Rattle.nt_read.specs.Found.{is_raw_char, is_raw_byte};
-ghost use Rattle.nt_read.specs.Pieces.{after_values};
-ghost use Rattle.nt_read.specs.TerminalReading.{iri_piece, string_piece};
-
-use crate::escapes::{iri_piece, string_piece};
 
 /// The text after the longest run of `IRICHAR` that it begins with.
 pub fn after_irichars(text: &str) -> &str
@@ -118,28 +114,4 @@ fn end_of<'a>(text: &'a str, rest: &[u8]) -> &'a str
 {
     let (_, end) = text.split_at(text.len() - rest.len());
     end
-}
-
-/// The text after the characters of an IRI.
-#[tactic(auto, using(crate::proofs::CharacterLaws::iri_pieces))]
-pub fn after_iri_pieces(text: &str) -> &str
-    ensures { chars result.now ≡ after_values iri_piece (chars text.now) }
-{
-    let mut rest = text;
-    while let Some((_, after)) = iri_piece(rest) {
-        rest = after;
-    }
-    rest
-}
-
-/// The text after the characters of a string.
-#[tactic(auto, using(crate::proofs::CharacterLaws::string_pieces, crate::proofs::RawLaws::raw_strings))]
-pub fn after_string_pieces(text: &str) -> &str
-    ensures { chars result.now ≡ after_values string_piece (chars text.now) }
-{
-    let mut rest = after_raw_chars(text);
-    while let Some((_, after)) = string_piece(rest) {
-        rest = after_raw_chars(after);
-    }
-    rest
 }

@@ -3,18 +3,21 @@ ghost use Rattle.std.specs.Prelude.{◌≡◌, IfSome, map};
 ghost use Rattle.std.specs.Option.{option_map};
 ghost use Rattle.std.specs.Str.{chars, IsUtf8};
 ghost use Rattle.bm_term.specs.Canonical.{blank};
+ghost use Rattle.bm_term.specs.Marks.{quotation_mark};
+ghost use Rattle.rdf_escapes.specs.Reading.{read_iri_body, read_iri_ref, read_string_body, read_string};
 ghost use Rattle.nt_read.specs.Found.{iri_of, lexical_of, label_of, tag_of, IsIriText, IsStringText, IsRawTextOf};
-ghost use Rattle.nt_read.specs.TerminalReading.{read_iri_body, read_iri_ref, read_string_body, read_string, read_langtag, read_label};
+ghost use Rattle.nt_read.specs.TerminalReading.{read_langtag, read_label};
 
 use crate::found::Quoted;
-use crate::runs::{after_iri_pieces, after_irichars, after_raw_chars, after_string_pieces};
+use crate::runs::{after_irichars, after_raw_chars};
 use bm_term::{
     Alphanumeric, Letter, NtLabelFirst, NtPnChars, after_char, after_dotted_name,
     after_language_tag, before,
 };
+use rdf_escapes::{after_iri_pieces, after_string_pieces};
 
 /// IRIREF ::= '<' (IRICHAR | UCHAR)* '>'
-#[tactic(auto, unfolding(crate::specs::TerminalReading::read_iri_ref))]
+#[tactic(auto, unfolding(rdf_escapes::specs::Reading::read_iri_ref))]
 pub fn iri_ref(text: &str) -> Option<(Quoted<'_>, &str)>
     ensures chars { option_map (λ p. (iri_of p.0, chars p.1.now)) result ≡ read_iri_ref (chars text.now) }
     ensures is { IfSome result (λ p. IsIriText p.0 × IsUtf8 p.1.now) }
@@ -27,7 +30,7 @@ pub fn iri_ref(text: &str) -> Option<(Quoted<'_>, &str)>
 }
 
 // The same behind its opening bracket, where it is not all raw.
-#[tactic(auto, unfolding(crate::specs::TerminalReading::read_iri_body, crate::specs::Found::iri_of))]
+#[tactic(auto, unfolding(rdf_escapes::specs::Reading::read_iri_body, crate::specs::Found::iri_of))]
 fn escaped_iri_ref(body: &str) -> Option<(Quoted<'_>, &str)>
     ensures chars { option_map (λ p. (iri_of p.0, chars p.1.now)) result ≡ read_iri_body (chars body.now) }
     ensures is { IfSome result (λ p. IsIriText p.0 × IsUtf8 p.1.now) }
@@ -37,9 +40,9 @@ fn escaped_iri_ref(body: &str) -> Option<(Quoted<'_>, &str)>
 }
 
 /// STRING_LITERAL_QUOTE ::= '"' ([^ " \ LF CR] | ECHAR | UCHAR)* '"'
-#[tactic(auto, unfolding(crate::specs::TerminalReading::read_string))]
+#[tactic(auto, unfolding(rdf_escapes::specs::Reading::read_string))]
 pub fn string_literal_quote(text: &str) -> Option<(Quoted<'_>, &str)>
-    ensures chars { option_map (λ p. (lexical_of p.0, chars p.1.now)) result ≡ read_string (chars text.now) }
+    ensures chars { option_map (λ p. (lexical_of p.0, chars p.1.now)) result ≡ read_string quotation_mark (chars text.now) }
     ensures is { IfSome result (λ p. IsStringText p.0 × IsUtf8 p.1.now) }
 {
     let body = after_char(text, '"')?;
@@ -50,12 +53,12 @@ pub fn string_literal_quote(text: &str) -> Option<(Quoted<'_>, &str)>
 }
 
 // The same behind its opening mark, where it is not all raw.
-#[tactic(auto, unfolding(crate::specs::TerminalReading::read_string_body, crate::specs::Found::lexical_of))]
+#[tactic(auto, unfolding(rdf_escapes::specs::Reading::read_string_body, crate::specs::Found::lexical_of))]
 fn escaped_string(body: &str) -> Option<(Quoted<'_>, &str)>
-    ensures chars { option_map (λ p. (lexical_of p.0, chars p.1.now)) result ≡ read_string_body (chars body.now) }
+    ensures chars { option_map (λ p. (lexical_of p.0, chars p.1.now)) result ≡ read_string_body quotation_mark (chars body.now) }
     ensures is { IfSome result (λ p. IsStringText p.0 × IsUtf8 p.1.now) }
 {
-    let rest = after_char(after_string_pieces(body), '"')?;
+    let rest = after_char(after_string_pieces('"', body), '"')?;
     Some((Quoted::Escaped(body), rest))
 }
 

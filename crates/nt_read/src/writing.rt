@@ -6,56 +6,13 @@ ghost use Rattle.bm_term.specs.Canonical.{iri, plain, tagged, escaped, IsTerm, c
 ghost use Rattle.bm_term.specs.Marks.{quotation_mark, at_sign, circumflex, less_than, greater_than};
 ghost use Rattle.nt_read.specs.Found.{iri_of, lexical_of, tag_of, raw_length, IsIriText, IsStringText, IsTailText, IsFoundText, AreFoundTexts, AreTerms, literal_with, term_found, triple_found};
 ghost use Rattle.nt_read.specs.LineReading.{literal_of};
-ghost use Rattle.nt_read.specs.Pieces.{values};
-ghost use Rattle.nt_read.specs.TerminalReading.{iri_piece, string_piece};
 
-use crate::escapes::{iri_piece, string_piece};
 use crate::found::{FoundTerm, FoundTriple, LiteralTail, Quoted};
-use crate::runs::after_raw_chars;
-use bm_term::{Term, Triple, before, push_spelling, split_char};
+use bm_term::{Term, Triple, split_char};
+use rdf_escapes::{push_iri_pieces, push_string_pieces};
 use std::alloc::{AllocError, Global};
 
 const XSD_STRING: &str = "<http://www.w3.org/2001/XMLSchema#string>";
-
-// Writes the characters of an IRI, raw.
-#[tactic(auto, using(crate::proofs::CharacterLaws::iri_pieces))]
-fn push_iri_pieces(out: &mut String, text: &str) -> Result<(), AllocError>
-    ensures { OnOk result (string_bytes out.new ≡ string_bytes out.old ++ encode_utf8_all (values iri_piece (chars text.now))) }
-{
-    let mut rest = text;
-    while let Some((c, after)) = iri_piece(rest) {
-        out.push(c)?;
-        rest = after;
-    }
-    Ok(())
-}
-
-// Writes the characters of a string, each in its one spelling.
-#[tactic(auto, using(crate::proofs::CharacterLaws::string_pieces, crate::proofs::RawLaws::raw_strings))]
-fn push_string_pieces(out: &mut String, text: &str) -> Result<(), AllocError>
-    ensures { OnOk result (string_bytes out.new ≡ string_bytes out.old ++ encode_utf8_all (escaped (values string_piece (chars text.now)))) }
-{
-    let mut rest = push_raw(out, text)?;
-    while let Some((c, after)) = string_piece(rest) {
-        push_spelling(out, c)?;
-        rest = push_raw(out, after)?;
-    }
-    Ok(())
-}
-
-// Writes those that stand raw in front, and gives the text after them.
-#[tactic(auto, using(crate::proofs::RawLaws::raw_strings))]
-fn push_raw<'a>(out: &mut String, text: &'a str) -> Result<&'a str, AllocError>
-    ensures written { IfOk result (λ rest.
-        string_bytes out.new ++ encode_utf8_all (escaped (values string_piece (chars rest.now)))
-        ≡ string_bytes out.old ++ encode_utf8_all (escaped (values string_piece (chars text.now)))) }
-    ensures utf8 { IfOk result (λ rest. IsUtf8 rest.now) }
-    ensures forward { IfOk result (λ rest. length (chars rest.now) ≤ length (chars text.now)) }
-{
-    let rest = after_raw_chars(text);
-    out.push_str(before(text, rest))?;
-    Ok(rest)
-}
 
 // Writes a language tag in lower case.
 fn push_lower(out: &mut String, tag: &str) -> Result<(), AllocError>
@@ -93,7 +50,7 @@ fn push_string(out: &mut String, quoted: Quoted<'_>) -> Result<(), AllocError>
         Quoted::Raw(text) => out.push_str(text),
         Quoted::Escaped(body) => {
             out.push('"')?;
-            push_string_pieces(out, body)?;
+            push_string_pieces(out, '"', body)?;
             out.push('"')
         }
     }

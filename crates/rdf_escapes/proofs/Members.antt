@@ -19,7 +19,7 @@ use Rattle.rdf_escapes.proofs.PieceLaws.{splits}
 use Rattle.rdf_escapes.proofs.CharacterLaws.{iri_piece-forward, iri_piece-passes, string_piece-forward, string_piece-passes}
 
 -- the values of pieces are members, where each is
-members_of : (P : List ℕ → ℕ → Type 0) (p : ℕ → Bool) → ((text : List ℕ) (c : ℕ) → P text c → p c ≡ true) → (vs text : List ℕ) → Star P text vs → list_all p vs ≡ true
+pub members_of : (P : List ℕ → ℕ → Type 0) (p : ℕ → Bool) → ((text : List ℕ) (c : ℕ) → P text c → p c ≡ true) → (vs text : List ℕ) → Star P text vs → list_all p vs ≡ true
 members_of P p each [] text star = refl
 members_of P p each (v ∷ vs) text (front, rest, piece, star, split) = both_true (each front v piece) (members_of P p each vs rest star)
 
@@ -37,7 +37,7 @@ irichars_are_characters (c ∷ cs) all =
     let (first, others) = and_parts (is_irichar c) (list_all is_irichar cs) all in
     both_true (irichar_is_character c first) (irichars_are_characters cs others)
 
-scalars_are_characters : (cs : List ℕ) → list_all is_scalar cs ≡ true → all_scalars cs ≡ true
+pub scalars_are_characters : (cs : List ℕ) → list_all is_scalar cs ≡ true → all_scalars cs ≡ true
 scalars_are_characters [] all = refl
 scalars_are_characters (c ∷ cs) all =
     let (first, others) = and_parts (is_scalar c) (list_all is_scalar cs) all in
@@ -56,7 +56,7 @@ echar_is_scalar : (letter c : ℕ) → echar_value letter ≡ Some c → is_scal
 unfolding echar_value is_scalar
 echar_is_scalar letter c e = grind (arith, nat_tests)
 
-string_piece_is_scalar : (mark : ℕ) (text : List ℕ) (c : ℕ) → IsStringPiece mark text c → is_scalar c ≡ true
+pub string_piece_is_scalar : (mark : ℕ) (text : List ℕ) (c : ℕ) → IsStringPiece mark text c → is_scalar c ≡ true
 string_piece_is_scalar mark text c (inl (member, raw)) = string_char_is_scalar mark c member
 string_piece_is_scalar mark text c (inr (inl (letter, value, spelled))) = echar_is_scalar letter c value
 string_piece_is_scalar mark text c (inr (inr is)) = is.scalar

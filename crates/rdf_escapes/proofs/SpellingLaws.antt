@@ -14,7 +14,7 @@ use Rattle.rdf_escapes.proofs.PieceLaws.{splits, passed_to_end}
 use Rattle.rdf_escapes.proofs.CharacterLaws.{iri_piece-passes, iri_piece-forward, iri_piece-over, iri_piece-closed, string_piece-passes, string_piece-forward, string_piece-over, string_piece-closed}
 
 -- text between an opening and a closing mark
-enclosed : (open_mark close : ℕ) (body rest : List ℕ) → (open_mark ∷ (body ++ close ∷ [])) ++ rest ≡ open_mark ∷ (body ++ close ∷ rest)
+pub enclosed : (open_mark close : ℕ) (body rest : List ℕ) → (open_mark ∷ (body ++ close ∷ [])) ++ rest ≡ open_mark ∷ (body ++ close ∷ rest)
 enclosed open_mark close body rest = ap (λ xs. open_mark ∷ xs) (append_assoc body (close ∷ []) rest)
 
 pub iri_ref-sound : (text rest iri : List ℕ) → read_iri_ref text ≡ Some (iri, rest) → BeginsWith IsIriRef text iri rest

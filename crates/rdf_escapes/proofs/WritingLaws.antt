@@ -8,7 +8,7 @@ use Rattle.rdf_escapes.specs.Pieces.{values}
 use Rattle.rdf_escapes.specs.Reading.{iri_piece, string_piece}
 use Rattle.rdf_escapes.proofs.CharacterLaws.{iri_values-more, iri_values-none, string_values-more, string_values-none}
 
-appended : (out new front others all total : List ℕ) → new ≡ out ++ front → all ≡ front ++ others → out ++ all ≡ total → new ++ others ≡ total
+pub appended : (out new front others all total : List ℕ) → new ≡ out ++ front → all ≡ front ++ others → out ++ all ≡ total → new ++ others ≡ total
 appended out new front others all total pushed split before =
     ap (λ xs. xs ++ others) pushed ∙ append_assoc out front others ∙ ap (λ xs. out ++ xs) (sym split) ∙ before
 

@@ -4,8 +4,8 @@ use Rattle.bm_term.specs.Canonical.{iri}
 use Rattle.bm_term.specs.Marks.{greater_than, less_than}
 use Rattle.nt_read.specs.declared.found.Quoted.TheVariants.{Raw}
 use Rattle.nt_read.specs.Found.{iri_of}
-use Rattle.nt_read.specs.Pieces.{values}
-use Rattle.nt_read.specs.TerminalReading.{iri_piece}
+use Rattle.rdf_escapes.specs.Pieces.{values}
+use Rattle.rdf_escapes.specs.Reading.{iri_piece}
 use Rattle.nt_read.proofs.WritingLaws.{raw_bytes, pushed_raw, pushed_marked}
 use Rattle.nt_read.proofs.writing.push_iri.Goals as goal
 
@@ -22,4 +22,4 @@ returns-in_ok-push_iri_pieces-in-Escaped c =
     rw c.in-Escaped.is
     (pushed_marked c.push-in-Escaped.result (string_bytes c.args.out.now) (string_bytes c.push.new.self) (string_bytes c.push_iri_pieces.new.out)
     (string_bytes c.push-in-Escaped.new.self) (values iri_piece (chars c.in-Escaped.body.now)) less_than greater_than
-    c.in_ok-push-in-Escaped.ensures.bytes c.in_ok-push_iri_pieces-in-Escaped.ensures c.push-in-Escaped.ensures.bytes)
+    c.in_ok-push-in-Escaped.ensures.bytes c.in_ok-push_iri_pieces-in-Escaped.ensures.ok c.push-in-Escaped.ensures.bytes)

@@ -4,8 +4,8 @@ use Rattle.bm_term.specs.Canonical.{plain, escaped}
 use Rattle.bm_term.specs.Marks.{quotation_mark}
 use Rattle.nt_read.specs.declared.found.Quoted.TheVariants.{Raw}
 use Rattle.nt_read.specs.Found.{lexical_of}
-use Rattle.nt_read.specs.Pieces.{values}
-use Rattle.nt_read.specs.TerminalReading.{string_piece}
+use Rattle.rdf_escapes.specs.Pieces.{values}
+use Rattle.rdf_escapes.specs.Reading.{string_piece}
 use Rattle.nt_read.proofs.WritingLaws.{raw_bytes, pushed_raw, pushed_marked}
 use Rattle.nt_read.proofs.writing.push_string.Goals as goal
 
@@ -21,5 +21,5 @@ unfolding lexical_of
 returns-in_ok-push_string_pieces-in-Escaped c =
     rw c.in-Escaped.is
     (pushed_marked c.push-in-Escaped.result (string_bytes c.args.out.now) (string_bytes c.push.new.self) (string_bytes c.push_string_pieces.new.out)
-    (string_bytes c.push-in-Escaped.new.self) (escaped (values string_piece (chars c.in-Escaped.body.now))) quotation_mark quotation_mark
-    c.in_ok-push-in-Escaped.ensures.bytes c.in_ok-push_string_pieces-in-Escaped.ensures c.push-in-Escaped.ensures.bytes)
+    (string_bytes c.push-in-Escaped.new.self) (escaped (values (string_piece quotation_mark) (chars c.in-Escaped.body.now))) quotation_mark quotation_mark
+    c.in_ok-push-in-Escaped.ensures.bytes c.in_ok-push_string_pieces-in-Escaped.ensures.ok c.push-in-Escaped.ensures.bytes)
