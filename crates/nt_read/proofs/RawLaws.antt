@@ -1,18 +1,15 @@
 -- A text that is raw between its marks stands for itself.
-use Rattle.std.proofs.Common.{◌≡◌, ℕ, Bool, true, is_none, inl, Option, Some, None, List, [], ◌∷◌, ◌++◌, refl, ap, ◌∙◌, sym, arith, append_assoc, length, ◌≤◌}
+use Rattle.std.proofs.Common.{◌≡◌, ℕ, Bool, true, is_none, inl, Option, Some, None, List, [], ◌∷◌, ◌++◌, refl, ap, ◌∙◌, sym, arith, append_assoc}
 use Rattle.std.proofs.lemmas.Bool.{and_parts}
 use Rattle.std.proofs.lemmas.Bool.Decides.{nat_tests}
-use Rattle.std.proofs.lemmas.List.Concat.{flat_map-append}
-use Rattle.std.proofs.lemmas.Str.{encodes-append, encodes-chars}
 use Rattle.std.specs.List.{list_all}
-use Rattle.std.specs.Str.{chars, IsUtf8, encode_utf8_all}
-use Rattle.bm_term.specs.Canonical.{iri, plain, blank, canonical_chars, escape_letter, escaped, spelling}
+use Rattle.bm_term.specs.Canonical.{iri, plain, blank, canonical_chars, escape_letter, escaped}
 use Rattle.bm_term.specs.Classes.{is_scalar, is_irichar, is_nt_label_first, is_nt_pn_chars}
 use Rattle.bm_term.specs.Marks.{less_than, greater_than, quotation_mark, low_line, colon}
 use Rattle.bm_term.specs.Names.{after_dotted_name}
 use Rattle.bm_term.specs.Repetition.{Star}
 use Rattle.bm_term.specs.Text.{after_char, after_run, before, HasRest}
-use Rattle.bm_term.proofs.TextLemmas.{after_char-some, after_run-split, before-append, length-after_run}
+use Rattle.bm_term.proofs.TextLemmas.{after_char-some, after_run-split, before-append}
 use Rattle.nt_read.specs.Found.{is_raw_char, behind_first}
 use Rattle.rdf_escapes.specs.Iris.{IsIriPiece}
 use Rattle.rdf_escapes.specs.Pieces.{values}

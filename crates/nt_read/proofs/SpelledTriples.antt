@@ -1,8 +1,8 @@
 -- The triples that lines spell.
-use Rattle.std.proofs.Common.{◌≡◌, ◌≢◌, ◌↔◌, ◌⊎◌, ℕ, suc, List, [], ◌∷◌, ◌++◌, All, refl, sym, ◌∙◌, ap, subst, inl, inr, arith}
+use Rattle.std.proofs.Common.{◌≡◌, ◌≢◌, ◌↔◌, ℕ, suc, List, [], ◌∷◌, ◌++◌, All, refl, sym, ◌∙◌, ap, subst, inl, inr, arith}
 use Rattle.std.proofs.lemmas.List.Elements.{All-nil, All-cons}
 use Rattle.bm_term.specs.declared.triple.Triple.{Triple}
-use Rattle.nt_read.specs.Line.{Spells, SpellsNothing, IsBadLine}
+use Rattle.nt_read.specs.Line.{IsBadLine}
 use Rattle.nt_read.specs.LineReading.{LineReading, bad, nothing, spelled, line_reading}
 use Rattle.nt_read.specs.Lines.{triples_in, triples_of, SpellTriples}
 use Rattle.nt_read.proofs.LineLaws.{bad_is_read, read_is_bad, spelled_is_read, nothing_is_read, read_is_spelled, read_is_nothing}

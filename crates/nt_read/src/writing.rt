@@ -1,9 +1,8 @@
 // The canonical texts of the terms of a line.
-ghost use Rattle.std.specs.Prelude.{◌≤◌, length, ◌≡◌, ℕ, List, [], ◌∷◌, ◌++◌, map, IfOk, OnOk, string_bytes};
+ghost use Rattle.std.specs.Prelude.{◌≡◌, ℕ, List, ◌++◌, map, IfOk, OnOk, string_bytes};
 ghost use Rattle.std.specs.Char.{to_ascii_lowercase};
-ghost use Rattle.std.specs.Str.{chars, encode_utf8_all, IsUtf8};
-ghost use Rattle.bm_term.specs.Canonical.{iri, plain, tagged, escaped, IsTerm, canonical_text};
-ghost use Rattle.bm_term.specs.Marks.{quotation_mark, at_sign, circumflex, less_than, greater_than};
+ghost use Rattle.std.specs.Str.{chars, encode_utf8_all};
+ghost use Rattle.bm_term.specs.Canonical.{iri, plain, tagged, IsTerm, canonical_text};
 ghost use Rattle.nt_read.specs.Found.{iri_of, lexical_of, tag_of, raw_length, IsIriText, IsStringText, IsTailText, IsFoundText, AreFoundTexts, AreTerms, literal_with, term_found, triple_found};
 ghost use Rattle.nt_read.specs.LineReading.{literal_of};
 
