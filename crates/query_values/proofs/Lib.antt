@@ -1,0 +1,7 @@
+pub mod LocalValues
+pub mod SourceTokens
+pub mod SpelledValues
+pub mod TermLaws
+pub mod TokenLaws
+pub mod ValueExamples
+pub mod WalkLaws

@@ -1,0 +1,9 @@
+use Rattle.query_values.proofs.SpelledValues.{lexical_of-spells}
+use Rattle.query_values.proofs.TokenLaws.{lexical_characters}
+use Rattle.query_values.proofs.value_laws.strings_stand_for_what_they_spell.Goals as goal
+
+pub returns-clause-spells : goal.returns-clause-spells
+returns-clause-spells c = lexical_of-spells
+
+pub returns-clause-characters : goal.returns-clause-characters
+returns-clause-characters c = lexical_characters

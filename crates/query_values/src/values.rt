@@ -1,0 +1,123 @@
+// What tokens stand for: the characters of IRIs and names.
+ghost use Rattle.std.specs.Prelude.{◌≡◌, [], ◌∷◌, ◌++◌, IfOk, OnOk, string_bytes};
+ghost use Rattle.std.specs.List.{filter};
+ghost use Rattle.std.specs.Str.{chars, encode_utf8_all};
+ghost use Rattle.query_tokens.specs.Token.{shown};
+ghost use Rattle.query_values.specs.Values.{IsSpelled, behind_first, from_colon, is_no_colon, is_no_backslash, iri_of, prefix_of, local_of, prefixed_iri, name_of};
+
+use bm_term::{CharClass, after_run, before, split_char};
+use query_tokens::Token;
+use rdf_escapes::push_iri_pieces;
+use std::alloc::{AllocError, Global};
+
+// Every character but the colon.
+#[derive(Clone, Copy)]
+struct NoColon;
+
+impl CharClass for NoColon {
+    ghost members = { is_no_colon };
+
+    #[tactic(auto, unfolding(crate::specs::Values::is_no_colon))]
+    fn has(self, c: char) -> bool {
+        c != ':'
+    }
+}
+
+/// The characters of a token.
+pub(crate) fn text_of<'a>(token: Token<'a>) -> &'a str
+    requires { IsSpelled (shown token) }
+    ensures { result.now ≡ token.entry.text.now }
+{
+    match str::from_utf8(token.text) {
+        Ok(text) => text,
+        Err(_) => unreachable!(),
+    }
+}
+
+/// What stands behind the first character of a text.
+pub(crate) fn behind_first(text: &str) -> &str
+    ensures { chars result.now ≡ behind_first (chars text.now) }
+{
+    match split_char(text) {
+        Some((_, rest)) => rest,
+        None => text,
+    }
+}
+
+fn from_colon(text: &str) -> &str
+    ensures { chars result.now ≡ from_colon (chars text.now) }
+{
+    after_run(text, NoColon)
+}
+
+/// The IRI that an IRI in brackets spells, its escapes undone.
+#[tactic(auto, unfolding(crate::specs::Values::iri_of))]
+pub fn iri(alloc: Global, token: Token<'_>) -> Result<String, AllocError>
+    requires { IsSpelled (shown token) }
+    ensures { IfOk result (λ iri. chars (string_bytes iri) ≡ iri_of (shown token.entry)) }
+{
+    let mut iri = String::new(alloc);
+    push_iri_pieces(&mut iri, behind_first(text_of(token)))?;
+    Ok(iri)
+}
+
+/// The prefix of a prefixed name, or of a prefix with its colon: what stands before the colon.
+#[tactic(auto, unfolding(crate::specs::Values::prefix_of))]
+pub fn prefix<'a>(token: Token<'a>) -> &'a str
+    requires { IsSpelled (shown token) }
+    ensures { chars result.now ≡ prefix_of (shown token.entry) }
+{
+    let text = text_of(token);
+    before(text, from_colon(text))
+}
+
+/// The IRI of a prefixed name: the namespace of its prefix, and the local name, in which a backslash
+/// and what stands behind it are that alone.
+#[tactic(auto, unfolding(crate::specs::Values::local_of))]
+pub fn prefixed_iri(alloc: Global, namespace: &str, token: Token<'_>) -> Result<String, AllocError>
+    requires { IsSpelled (shown token) }
+    ensures { IfOk result (λ iri. chars (string_bytes iri) ≡ prefixed_iri (chars namespace.now) (shown token.entry)) }
+{
+    let mut iri = String::from_str(alloc, namespace)?;
+    push_without_backslashes(&mut iri, behind_first(from_colon(text_of(token))))?;
+    Ok(iri)
+}
+
+// Writes the characters of a text that are no backslash.
+fn push_without_backslashes(out: &mut String, text: &str) -> Result<(), AllocError>
+    ensures { OnOk result (string_bytes out.new ≡ string_bytes out.old ++ encode_utf8_all (filter is_no_backslash (chars text.now))) }
+{
+    let mut rest = text;
+    while let Some((c, after)) = split_char(rest) {
+        push_no_backslash(out, c)?;
+        rest = after;
+    }
+    Ok(())
+}
+
+fn push_no_backslash(out: &mut String, c: char) -> Result<(), AllocError>
+    ensures { OnOk result (string_bytes out.new ≡ string_bytes out.old ++ encode_utf8_all (filter is_no_backslash (c ∷ []))) }
+{
+    if is_no_backslash(c) {
+        return out.push(c);
+    }
+    Ok(())
+}
+
+#[tactic(auto, unfolding(crate::specs::Values::is_no_backslash))]
+fn is_no_backslash(c: char) -> bool
+    ensures { result ≡ is_no_backslash c }
+{
+    c != '\\'
+}
+
+/// The bytes of a variable's name, without its mark.
+#[tactic(auto, unfolding(crate::specs::Values::name_of))]
+pub fn variable_name<'a>(token: Token<'a>) -> &'a [u8]
+    ensures { result.now ≡ name_of (shown token.entry) }
+{
+    match token.text {
+        [_, name @ ..] => name,
+        [] => token.text,
+    }
+}
