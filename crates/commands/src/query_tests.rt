@@ -6,7 +6,8 @@ use std::test::Fail;
 // Tables of queries, a line each: a query, and the text that answers it. [TAB] and [LF] stand for those bytes.
 
 // Columns: named, all, named twice, without occurrence; DISTINCT.
-const COLUMNS: &str = r#"SELECT * {?x <urn:p> ?y} => ?x[TAB]?y[LF]<urn:a>[TAB]<urn:b>[LF]<urn:b>[TAB]<urn:c>[LF]
+const COLUMNS: &str =
+    r#"SELECT * {?x <urn:p> ?y} => ?x[TAB]?y[LF]<urn:a>[TAB]<urn:b>[LF]<urn:b>[TAB]<urn:c>[LF]
 SELECT ?x ?y { ?x <urn:p> ?y } => ?x[TAB]?y[LF]<urn:a>[TAB]<urn:b>[LF]<urn:b>[TAB]<urn:c>[LF]
 SELECT ?y ?x { ?x <urn:p> ?y } => ?y[TAB]?x[LF]<urn:b>[TAB]<urn:a>[LF]<urn:c>[TAB]<urn:b>[LF]
 SELECT ?x ?x { ?x <urn:p> ?y } => ?x[LF]<urn:a>[LF]<urn:b>[LF]
@@ -19,7 +20,8 @@ SELECT ?x {} => ?x[LF][LF]
 "#;
 
 // Keywords in either case, tokens without white space between them, variables, prefixes.
-const NAMES: &str = r#"select * where { ?x <urn:p> ?y } => ?x[TAB]?y[LF]<urn:a>[TAB]<urn:b>[LF]<urn:b>[TAB]<urn:c>[LF]
+const NAMES: &str =
+    r#"select * where { ?x <urn:p> ?y } => ?x[TAB]?y[LF]<urn:a>[TAB]<urn:b>[LF]<urn:b>[TAB]<urn:c>[LF]
 SeLeCt*WhErE{?x<urn:p>?y} => ?x[TAB]?y[LF]<urn:a>[TAB]<urn:b>[LF]<urn:b>[TAB]<urn:c>[LF]
 select distinct?x?y where{?x<urn:p>?y} => ?x[TAB]?y[LF]<urn:a>[TAB]<urn:b>[LF]<urn:b>[TAB]<urn:c>[LF]
 SELECT * { $x <urn:p> $y } => ?x[TAB]?y[LF]<urn:a>[TAB]<urn:b>[LF]<urn:b>[TAB]<urn:c>[LF]
@@ -44,7 +46,8 @@ PREFIX select: <urn:> SELECT * { select:a select:p ?select } => ?select[LF]<urn:
 "#;
 
 // Blocks, and lists of verbs and objects; a literal as the subject matches nothing.
-const LISTS: &str = r#"SELECT * { ?x <urn:p> ?y . } => ?x[TAB]?y[LF]<urn:a>[TAB]<urn:b>[LF]<urn:b>[TAB]<urn:c>[LF]
+const LISTS: &str =
+    r#"SELECT * { ?x <urn:p> ?y . } => ?x[TAB]?y[LF]<urn:a>[TAB]<urn:b>[LF]<urn:b>[TAB]<urn:c>[LF]
 SELECT * { ?x <urn:p> ?y . ?y <urn:p> ?z . } => ?x[TAB]?y[TAB]?z[LF]<urn:a>[TAB]<urn:b>[TAB]<urn:c>[LF]
 SELECT * { ?x <urn:p> ?y ; } => ?x[TAB]?y[LF]<urn:a>[TAB]<urn:b>[LF]<urn:b>[TAB]<urn:c>[LF]
 SELECT * { ?x <urn:p> ?y ;;; . } => ?x[TAB]?y[LF]<urn:a>[TAB]<urn:b>[LF]<urn:b>[TAB]<urn:c>[LF]
@@ -84,9 +87,18 @@ SELECT * { ?x <urn:p> ?y OPTIONAL { ?y <urn:p> ?z } OPTIONAL { ?w <urn:p> ?x } }
 
 // The same of queries with characters that do not show.
 const HIDDEN: [(&str, &str); 3] = [
-    ("\t\r\n SELECT\t*\r{\n?x\t<urn:p>\r\n?y\n}\n\n", "?x[TAB]?y[LF]<urn:a>[TAB]<urn:b>[LF]<urn:b>[TAB]<urn:c>[LF]"),
-    ("# all\nSELECT * # columns\r{ ?x <urn:p> ?y } # end", "?x[TAB]?y[LF]<urn:a>[TAB]<urn:b>[LF]<urn:b>[TAB]<urn:c>[LF]"),
-    ("SELECT#\n*#\n{#}\n?x#<\n<urn:p>#\"\n?y#.\n}#", "?x[TAB]?y[LF]<urn:a>[TAB]<urn:b>[LF]<urn:b>[TAB]<urn:c>[LF]"),
+    (
+        "\t\r\n SELECT\t*\r{\n?x\t<urn:p>\r\n?y\n}\n\n",
+        "?x[TAB]?y[LF]<urn:a>[TAB]<urn:b>[LF]<urn:b>[TAB]<urn:c>[LF]",
+    ),
+    (
+        "# all\nSELECT * # columns\r{ ?x <urn:p> ?y } # end",
+        "?x[TAB]?y[LF]<urn:a>[TAB]<urn:b>[LF]<urn:b>[TAB]<urn:c>[LF]",
+    ),
+    (
+        "SELECT#\n*#\n{#}\n?x#<\n<urn:p>#\"\n?y#.\n}#",
+        "?x[TAB]?y[LF]<urn:a>[TAB]<urn:b>[LF]<urn:b>[TAB]<urn:c>[LF]",
+    ),
 ];
 
 // The text of some bytes, where [TAB] and [LF] stand for these.
@@ -102,7 +114,13 @@ fn shown(alloc: Global, bytes: &[u8]) -> Result<String, Fail> {
     Ok(text)
 }
 
-fn check_answer(rt: &impl Abort, alloc: Global, data: &str, query: &str, answer: &str) -> Result<(), Fail> {
+fn check_answer(
+    rt: &impl Abort,
+    alloc: Global,
+    data: &str,
+    query: &str,
+    answer: &str,
+) -> Result<(), Fail> {
     let mut world = world_of(alloc, data, query)?;
     let status = ask(alloc, &["ask", "d", "q", "tsv"], &mut world)?;
     assert_eq!(rt; status, 0, "{query}");
@@ -149,27 +167,87 @@ fn blanks(rt: HostRuntime) -> Result<(), Fail> {
 // A data file, a query, and the text that answers it.
 const OTHER_DATA: [(&str, &str, &str); 15] = [
     // DISTINCT.
-    ("<urn:a> <urn:p> <urn:b> .\n<urn:a> <urn:p> <urn:c> .\n", "SELECT ?x {?x <urn:p> ?y}", "?x[LF]<urn:a>[LF]<urn:a>[LF]"),
-    ("<urn:a> <urn:p> <urn:b> .\n<urn:a> <urn:p> <urn:c> .\n", "SELECT DISTINCT ?x {?x <urn:p> ?y}", "?x[LF]<urn:a>[LF]"),
+    (
+        "<urn:a> <urn:p> <urn:b> .\n<urn:a> <urn:p> <urn:c> .\n",
+        "SELECT ?x {?x <urn:p> ?y}",
+        "?x[LF]<urn:a>[LF]<urn:a>[LF]",
+    ),
+    (
+        "<urn:a> <urn:p> <urn:b> .\n<urn:a> <urn:p> <urn:c> .\n",
+        "SELECT DISTINCT ?x {?x <urn:p> ?y}",
+        "?x[LF]<urn:a>[LF]",
+    ),
     // A literal, and an unbound cell.
-    ("<urn:a> <urn:t> <urn:A> .\n<urn:b> <urn:t> <urn:A> .\n<urn:a> <urn:q> \"1\" .\n", "SELECT ?x ?y { ?x <urn:t> <urn:A> OPTIONAL { ?x <urn:q> ?y } }", "?x[TAB]?y[LF]<urn:a>[TAB]\"1\"[LF]<urn:b>[TAB][LF]"),
-    ("<urn:a> <urn:t> <urn:A> .\n<urn:b> <urn:t> <urn:A> .\n<urn:a> <urn:q> \"1\" .\n", "SELECT ?y ?x { ?x <urn:t> <urn:A> OPTIONAL { ?x <urn:q> ?y } }", "?y[TAB]?x[LF][TAB]<urn:b>[LF]\"1\"[TAB]<urn:a>[LF]"),
+    (
+        "<urn:a> <urn:t> <urn:A> .\n<urn:b> <urn:t> <urn:A> .\n<urn:a> <urn:q> \"1\" .\n",
+        "SELECT ?x ?y { ?x <urn:t> <urn:A> OPTIONAL { ?x <urn:q> ?y } }",
+        "?x[TAB]?y[LF]<urn:a>[TAB]\"1\"[LF]<urn:b>[TAB][LF]",
+    ),
+    (
+        "<urn:a> <urn:t> <urn:A> .\n<urn:b> <urn:t> <urn:A> .\n<urn:a> <urn:q> \"1\" .\n",
+        "SELECT ?y ?x { ?x <urn:t> <urn:A> OPTIONAL { ?x <urn:q> ?y } }",
+        "?y[TAB]?x[LF][TAB]<urn:b>[LF]\"1\"[TAB]<urn:a>[LF]",
+    ),
     // A variable twice.
-    ("<urn:a> <urn:p> <urn:a> .\n<urn:a> <urn:p> <urn:b> .\n", "SELECT * {?x <urn:p> ?x}", "?x[LF]<urn:a>[LF]"),
+    (
+        "<urn:a> <urn:p> <urn:a> .\n<urn:a> <urn:p> <urn:b> .\n",
+        "SELECT * {?x <urn:p> ?x}",
+        "?x[LF]<urn:a>[LF]",
+    ),
     // The verb `a`.
-    ("<urn:a> <http://www.w3.org/1999/02/22-rdf-syntax-ns#type> <urn:C> .\n", "SELECT * { ?s a <urn:C> }", "?s[LF]<urn:a>[LF]"),
-    ("<urn:a> <http://www.w3.org/1999/02/22-rdf-syntax-ns#type> <urn:C> .\n", "PREFIX a: <urn:> SELECT * { a:a a a:C }", "[LF][LF]"),
-    ("<urn:a> <http://www.w3.org/1999/02/22-rdf-syntax-ns#type> <urn:C> .\n", "SELECT * { ?a a ?s ; a ?b }", "?a[TAB]?s[TAB]?b[LF]<urn:a>[TAB]<urn:C>[TAB]<urn:C>[LF]"),
+    (
+        "<urn:a> <http://www.w3.org/1999/02/22-rdf-syntax-ns#type> <urn:C> .\n",
+        "SELECT * { ?s a <urn:C> }",
+        "?s[LF]<urn:a>[LF]",
+    ),
+    (
+        "<urn:a> <http://www.w3.org/1999/02/22-rdf-syntax-ns#type> <urn:C> .\n",
+        "PREFIX a: <urn:> SELECT * { a:a a a:C }",
+        "[LF][LF]",
+    ),
+    (
+        "<urn:a> <http://www.w3.org/1999/02/22-rdf-syntax-ns#type> <urn:C> .\n",
+        "SELECT * { ?a a ?s ; a ?b }",
+        "?a[TAB]?s[TAB]?b[LF]<urn:a>[TAB]<urn:C>[TAB]<urn:C>[LF]",
+    ),
     // Local names: a backslash is dropped, and `%` with its digits stays.
-    ("<urn:a.b-c~,d> <urn:%41> <urn:é> .\n", "PREFIX u: <urn:> SELECT * { u:a.b-c\\~\\,d ?p u:é }", "?p[LF]<urn:%41>[LF]"),
-    ("<urn:a.b-c~,d> <urn:%41> <urn:é> .\n", "PREFIX u: <urn:> SELECT * { ?s u:%41 ?o }", "?s[TAB]?o[LF]<urn:a.b-c~,d>[TAB]<urn:é>[LF]"),
-    ("<urn:a.b-c~,d> <urn:%41> <urn:é> .\n", "PREFIX u: <urn:> SELECT * { ?s u:A ?o }", "?s[TAB]?o[LF]"),
+    (
+        "<urn:a.b-c~,d> <urn:%41> <urn:é> .\n",
+        "PREFIX u: <urn:> SELECT * { u:a.b-c\\~\\,d ?p u:é }",
+        "?p[LF]<urn:%41>[LF]",
+    ),
+    (
+        "<urn:a.b-c~,d> <urn:%41> <urn:é> .\n",
+        "PREFIX u: <urn:> SELECT * { ?s u:%41 ?o }",
+        "?s[TAB]?o[LF]<urn:a.b-c~,d>[TAB]<urn:é>[LF]",
+    ),
+    (
+        "<urn:a.b-c~,d> <urn:%41> <urn:é> .\n",
+        "PREFIX u: <urn:> SELECT * { ?s u:A ?o }",
+        "?s[TAB]?o[LF]",
+    ),
     // A number sign within a token begins no comment.
-    ("<urn:#a> <urn:p> <urn:b> .\n", "PREFIX u: <urn:#> SELECT * { u:a <urn:p> ?o }#", "?o[LF]<urn:b>[LF]"),
-    ("<urn:#a> <urn:p> <urn:b> .\n", "PREFIX u: <urn:> SELECT * { u:\\#a <urn:p> ?o }", "?o[LF]<urn:b>[LF]"),
-    ("<urn:a> <urn:p> \"#b\" .\n", "SELECT * { ?s <urn:p> '#b' }", "?s[LF]<urn:a>[LF]"),
+    (
+        "<urn:#a> <urn:p> <urn:b> .\n",
+        "PREFIX u: <urn:#> SELECT * { u:a <urn:p> ?o }#",
+        "?o[LF]<urn:b>[LF]",
+    ),
+    (
+        "<urn:#a> <urn:p> <urn:b> .\n",
+        "PREFIX u: <urn:> SELECT * { u:\\#a <urn:p> ?o }",
+        "?o[LF]<urn:b>[LF]",
+    ),
+    (
+        "<urn:a> <urn:p> \"#b\" .\n",
+        "SELECT * { ?s <urn:p> '#b' }",
+        "?s[LF]<urn:a>[LF]",
+    ),
     // Terms are printed as their canonical texts.
-    ("_:b <urn:p> \"a\\tb\"@en .\n", "SELECT * { ?s <urn:p> ?o }", "?s[TAB]?o[LF]_:b[TAB]\"a\\tb\"@en[LF]"),
+    (
+        "_:b <urn:p> \"a\\tb\"@en .\n",
+        "SELECT * { ?s <urn:p> ?o }",
+        "?s[TAB]?o[LF]_:b[TAB]\"a\\tb\"@en[LF]",
+    ),
 ];
 
 #[test]
@@ -482,10 +560,31 @@ const KEPT: [(&str, &str, &str, u32, &str); 4] = [
 
 // The same with what is wrong.
 const PASSED: [(&str, &str, &str, u32, &str, &str); 4] = [
-    ("SELECT * { ", "<urn:a> <urn:p> <urn:b> . ", "", 257, "}", "too many patterns at byte 6683"),
-    ("SELECT * {", "OPTIONAL {}", "", 64, "}", "too many optionals at byte 703"),
+    (
+        "SELECT * { ",
+        "<urn:a> <urn:p> <urn:b> . ",
+        "",
+        257,
+        "}",
+        "too many patterns at byte 6683",
+    ),
+    (
+        "SELECT * {",
+        "OPTIONAL {}",
+        "",
+        64,
+        "}",
+        "too many optionals at byte 703",
+    ),
     ("SELECT * ", "{", "}", 33, "", "too deep at byte 41"),
-    ("SELECT * {", "{}", "", 256, "}", "too many groups at byte 520"),
+    (
+        "SELECT * {",
+        "{}",
+        "",
+        256,
+        "}",
+        "too many groups at byte 520",
+    ),
 ];
 
 fn push_often(text: &mut String, part: &str, times: u32) -> Result<(), AllocError> {
@@ -495,7 +594,14 @@ fn push_often(text: &mut String, part: &str, times: u32) -> Result<(), AllocErro
     Ok(())
 }
 
-fn long_query(alloc: Global, front: &str, part: &str, other: &str, times: u32, end: &str) -> Result<String, AllocError> {
+fn long_query(
+    alloc: Global,
+    front: &str,
+    part: &str,
+    other: &str,
+    times: u32,
+    end: &str,
+) -> Result<String, AllocError> {
     let mut query = String::from_str(alloc, front)?;
     push_often(&mut query, part, times)?;
     push_often(&mut query, other, times)?;
@@ -551,5 +657,10 @@ fn a_query_has_no_65_variables(rt: HostRuntime) -> Result<(), Fail> {
     let mut query = String::from_str(alloc, "SELECT")?;
     push_variables(&mut query, " ", " ", 65)?;
     query.push_str(" {}")?;
-    check_refusal(&rt, alloc, query.as_bytes(), "too many variables at byte 318")
+    check_refusal(
+        &rt,
+        alloc,
+        query.as_bytes(),
+        "too many variables at byte 318",
+    )
 }

@@ -8,7 +8,7 @@ pub(crate) const DATA: &str = "<urn:a> <urn:p> <urn:b> .\n<urn:b> <urn:p> <urn:c
 
 const QUERY: &str = "SELECT * { ?x <urn:p> ?y . ?y <urn:p> ?z }";
 
-pub(crate) const ANSWER: &str = "?x\t?y\t?z\n<urn:a>\t<urn:b>\t<urn:c>\n";
+const ANSWER: &str = "?x\t?y\t?z\n<urn:a>\t<urn:b>\t<urn:c>\n";
 
 const USAGE: &str =
     "usage: bitmat ask DATA QUERY tsv|json | load DATA INDEX | query INDEX QUERY tsv|json | check INDEX | explain INDEX QUERY | trial N\n";
