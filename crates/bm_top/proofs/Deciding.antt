@@ -1,32 +1,44 @@
 -- The verdict once both files have been read.
-use Rattle.std.proofs.Common.{◌≡◌, ℕ, List, Some, None, Err, ap}
+use Rattle.std.proofs.Common.{◌≡◌, ℕ, List, None, Ok, Err, ap}
 use Rattle.bm_term.specs.Graph.{graph_of}
 use Rattle.alg_model.specs.declared.query.Query.{Query}
-use Rattle.alg_model.specs.Answers.{answers_of}
+use Rattle.alg_model.specs.Answers.{abstract_of, answers_of}
 use Rattle.nt_read.specs.declared.lines.FeedFault.{FeedFault}
 use Rattle.nt_read.specs.declared.lines.FeedFault.TheVariants as feed_faults
-use Rattle.bm_top.specs.declared.plain_query.QueryFault.{QueryFault}
-use Rattle.bm_top.specs.declared.plain_query.QueryFault.TheVariants as query_faults
+use Rattle.sparql_parse.specs.QueryReading.{query_reading, IsReadAs}
+use Rattle.sparql_parse.specs.declared.fault.QueryFault.{QueryFault}
+use Rattle.sparql_parse.specs.declared.fault.QueryFault.TheVariants as query_faults
 use Rattle.bm_top.specs.Decide.{IsDecided, from_data, from_query}
 use Rattle.nt_read.specs.Lines.{first_bad, lines_of, triples_of}
-use Rattle.bm_top.specs.PlainQuery.{query_of}
-use Rattle.bm_top.specs.Reading.{IsDataOf, IsReadOf}
+use Rattle.bm_top.specs.QueryLine.{query_line}
+use Rattle.bm_top.specs.Reading.{IsDataOf}
 use Rattle.bm_top.specs.Tsv.{tsv_text}
-use Rattle.bm_top.specs.Verdict.{answered, answering, deciding, decided}
+use Rattle.bm_top.specs.Verdict.{answered, answering, deciding, decided, refused}
 
 -- the data was refused
 pub decided-data : (bytes text : List ℕ) (fault : FeedFault) → IsDataOf bytes (Err fault) → IsDecided (decided bytes text) (Err (from_data fault))
 unfolding decided
-decided-data bytes text (feed_faults.NotNTriples line) h = ap (λ bad. deciding bad (lines_of bytes) (query_of text)) h
+decided-data bytes text (feed_faults.NotNTriples line) h = ap (λ bad. deciding bad (lines_of bytes) (query_reading text)) h
 decided-data bytes text feed_faults.Memory h = tt
 
--- the query was refused
-pub decided-query : (bytes text : List ℕ) (fault : QueryFault) → first_bad bytes ≡ None → IsReadOf (query_of text) (Err fault) → IsDecided (decided bytes text) (Err (from_query fault))
+-- what was read as a query has a fault
+decided-fault : (bytes text : List ℕ) (fault : QueryFault) → first_bad bytes ≡ None → query_reading text ≡ Err fault → decided bytes text ≡ refused 3 (query_line fault)
 unfolding decided
-decided-query bytes text query_faults.NotPlain good h = rw good (ap (answering (lines_of bytes)) h)
+decided-fault bytes text fault good h = rw good (ap (answering (lines_of bytes)) h)
+
+-- the query was refused
+pub decided-query : (bytes text : List ℕ) (fault : QueryFault) → first_bad bytes ≡ None → IsReadAs (query_reading text) (Err fault) → IsDecided (decided bytes text) (Err (from_query fault))
 decided-query bytes text query_faults.Memory good h = tt
+decided-query bytes text (query_faults.Syntax at) good h = decided-fault bytes text (query_faults.Syntax at) good h
+decided-query bytes text (query_faults.Unsupported at word) good h = decided-fault bytes text (query_faults.Unsupported at word) good h
+decided-query bytes text (query_faults.UnknownPrefix at) good h = decided-fault bytes text (query_faults.UnknownPrefix at) good h
+decided-query bytes text (query_faults.TooManyVariables at) good h = decided-fault bytes text (query_faults.TooManyVariables at) good h
+decided-query bytes text (query_faults.TooManyPatterns at) good h = decided-fault bytes text (query_faults.TooManyPatterns at) good h
+decided-query bytes text (query_faults.TooManyOptionals at) good h = decided-fault bytes text (query_faults.TooManyOptionals at) good h
+decided-query bytes text (query_faults.TooManyGroups at) good h = decided-fault bytes text (query_faults.TooManyGroups at) good h
+decided-query bytes text (query_faults.TooDeep at) good h = decided-fault bytes text (query_faults.TooDeep at) good h
 
 -- both were taken
-pub decided-answered : (bytes text : List ℕ) (query : Query) → first_bad bytes ≡ None → query_of text ≡ Some query → decided bytes text ≡ answered (tsv_text query (answers_of query (graph_of (triples_of (lines_of bytes)))))
+pub decided-answered : (bytes text : List ℕ) (query : Query) → first_bad bytes ≡ None → query_reading text ≡ Ok (abstract_of query) → decided bytes text ≡ answered (tsv_text (abstract_of query) (answers_of query (graph_of (triples_of (lines_of bytes)))))
 unfolding decided
 decided-answered bytes text query good h = rw good (ap (answering (lines_of bytes)) h)

@@ -1,55 +1,26 @@
--- Worked examples, by computation: plain queries, result texts, commands and verdicts.
-use Rattle.std.proofs.Common.{◌≡◌, ℕ, List, [], ◌∷◌, ◌++◌, None, Some, false, codes, decimal, refl}
-use Rattle.bm_term.specs.Iri.{is_iri_char}
-use Rattle.alg_model.specs.declared.pattern.Place.{Place}
-use Rattle.alg_model.specs.declared.pattern.Place.TheVariants as places
-use Rattle.alg_model.specs.declared.pattern.TriplePat.{TriplePat}
-use Rattle.alg_model.specs.declared.pattern.Pattern.TheVariants as patterns
-use Rattle.alg_model.specs.declared.query.Query.{Query}
+-- Worked examples, by computation: result texts, commands, lines and verdicts.
+use Rattle.std.proofs.Common.{◌≡◌, [], ◌∷◌, ◌++◌, None, Some, Err, false, codes, decimal, refl}
+use Rattle.alg_model.specs.Answers.{AbstractQuery}
+use Rattle.alg_model.specs.Pattern.{Basic}
+use Rattle.query_grammar.specs.declared.words.Word.TheVariants as words
+use Rattle.sparql_parse.specs.declared.fault.QueryFault.TheVariants as faults
 use Rattle.bm_top.specs.Command.{ask, request_of}
-use Rattle.bm_top.specs.PlainQuery.{query_of}
 use Rattle.bm_world.specs.Meanings.{Files}
+use Rattle.bm_top.specs.QueryLine.{query_line}
 use Rattle.bm_top.specs.Tsv.{tsv_text}
 use Rattle.bm_top.specs.Verdict.{answered, refused, within, reading_file, deciding, verdict_of}
 
-abbrev variable : ℕ → Place
-variable number = places.Var (record { 0 = number })
-
--- the query of one triple pattern, with the names of its variables
-abbrev query : List (List ℕ) → TriplePat → Query
-query names pattern = record {
-  names = names;
-  pattern = patterns.Bgp (pattern ∷ []);
+-- a query with two columns
+abbrev two_columns : AbstractQuery
+two_columns = record {
+  names = codes "x" ∷ codes "y" ∷ [];
+  pattern = Basic [];
   columns = record { 0 = 0 } ∷ record { 0 = 1 } ∷ [];
   distinct = false;
 }
 
-abbrev two_variables : Query
-two_variables = query (codes "x" ∷ codes "y" ∷ []) (record {
-  subject = variable 0;
-  predicate = places.Term (codes "<urn:p>");
-  object = variable 1;
-  number = 1;
-})
-
--- one pattern with two variables, with and without a line end
-one_pattern : query_of (codes "SELECT * { ?x <urn:p> ?y }") ≡ Some two_variables
-unfolding is_iri_char
-one_pattern = refl
-
-with_a_line_end : query_of (codes "SELECT * { ?x <urn:p> ?y }\n") ≡ Some two_variables
-unfolding is_iri_char
-with_a_line_end = refl
-
--- a second space, and a variable as the predicate: no plain query
-two_spaces : query_of (codes "SELECT *  { ?x <urn:p> ?y }") ≡ None
-two_spaces = refl
-
-variable_predicate : query_of (codes "SELECT * { ?x ?p ?y }") ≡ None
-variable_predicate = refl
-
 -- a header, and a line for each row; an unbound cell is empty
-result_text : tsv_text two_variables ((Some (codes "<a>") ∷ Some (codes "\"b\"") ∷ []) ∷ (None ∷ Some (codes "<c>") ∷ []) ∷ []) ≡ codes "?x\t?y\n<a>\t\"b\"\n\t<c>\n"
+result_text : tsv_text two_columns ((Some (codes "<a>") ∷ Some (codes "\"b\"") ∷ []) ∷ (None ∷ Some (codes "<c>") ∷ []) ∷ []) ≡ codes "?x\t?y\n<a>\t\"b\"\n\t<c>\n"
 result_text = refl
 
 -- the one command, a form that is none, and a word too few
@@ -76,9 +47,34 @@ too_long = refl
 not_too_long : within (codes "q") 3 (codes "abc") answered ≡ answered (codes "abc")
 not_too_long = refl
 
--- a bad line goes before a query that is not plain
-bad_line : deciding (Some 12) [] None ≡ refused 2 (codes "data refused: line " ++ (decimal 12 ++ codes "\n"))
+-- a bad line goes before a query that is refused
+bad_line : deciding (Some 12) [] (Err (faults.Syntax 0)) ≡ refused 2 (codes "data refused: line " ++ (decimal 12 ++ codes "\n"))
 bad_line = refl
 
-not_plain : deciding None [] None ≡ refused 3 (codes "query refused: not plain\n")
-not_plain = refl
+bad_query : deciding None [] (Err (faults.Syntax 9)) ≡ refused 3 (codes "query refused: syntax at byte " ++ (decimal 9 ++ codes "\n"))
+bad_query = refl
+
+-- each line of a query that is refused
+unsupported_keyword : query_line (faults.Unsupported 11 words.Filter) ≡ codes "query refused: unsupported FILTER at byte " ++ (decimal 11 ++ codes "\n")
+unsupported_keyword = refl
+
+unsupported_sign : query_line (faults.Unsupported 7 words.SquareOpen) ≡ codes "query refused: unsupported [ at byte " ++ (decimal 7 ++ codes "\n")
+unsupported_sign = refl
+
+unknown_prefix : query_line (faults.UnknownPrefix 14) ≡ codes "query refused: unknown prefix at byte " ++ (decimal 14 ++ codes "\n")
+unknown_prefix = refl
+
+too_many_variables : query_line (faults.TooManyVariables 200) ≡ codes "query refused: too many variables at byte " ++ (decimal 200 ++ codes "\n")
+too_many_variables = refl
+
+too_many_patterns : query_line (faults.TooManyPatterns 6683) ≡ codes "query refused: too many patterns at byte " ++ (decimal 6683 ++ codes "\n")
+too_many_patterns = refl
+
+too_many_optionals : query_line (faults.TooManyOptionals 703) ≡ codes "query refused: too many optionals at byte " ++ (decimal 703 ++ codes "\n")
+too_many_optionals = refl
+
+too_many_groups : query_line (faults.TooManyGroups 512) ≡ codes "query refused: too many groups at byte " ++ (decimal 512 ++ codes "\n")
+too_many_groups = refl
+
+too_deep : query_line (faults.TooDeep 41) ≡ codes "query refused: too deep at byte " ++ (decimal 41 ++ codes "\n")
+too_deep = refl

@@ -3,11 +3,7 @@ pub mod DataTriples
 pub mod Deciding
 pub mod Distinct
 pub mod Examples
-pub mod IriTests
 pub mod LinePieces
 pub mod Lists
-pub mod Parts
-pub mod PlainQueries
-pub mod PlainVars
 pub mod Promises
 pub mod StepsDone

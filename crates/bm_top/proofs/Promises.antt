@@ -19,7 +19,7 @@ kept verdict ends.Memory m k ended = (ap (λ (w : Meanings). w.files) ended, ap 
 kept verdict (ends.ReadFault name) m k ended = (ap (λ (w : Meanings). w.files) ended, ap (λ (w : Meanings). w.complained) ended)
 kept verdict ends.Usage m k ended = (ap (λ (w : Meanings). w.files) ended.1, ap (λ (w : Meanings). w.complained) ended.1)
 kept verdict (ends.BadLine line) m k ended = (ap (λ (w : Meanings). w.files) ended.1, ap (λ (w : Meanings). w.complained) ended.1)
-kept verdict ends.NotPlain m k ended = (ap (λ (w : Meanings). w.files) ended.1, ap (λ (w : Meanings). w.complained) ended.1)
+kept verdict (ends.QueryRefused fault) m k ended = (ap (λ (w : Meanings). w.files) ended.1, ap (λ (w : Meanings). w.complained) ended.1)
 kept verdict (ends.TooLong name limit) m k ended = (ap (λ (w : Meanings). w.files) ended.1, ap (λ (w : Meanings). w.complained) ended.1)
 
 -- after a line was complained, or a front of it
@@ -65,7 +65,7 @@ IsHonest-ended verdict ends.Memory m k ended = record { answer = λ _ _ not. abs
 IsHonest-ended verdict (ends.ReadFault name) m k ended = record { answer = λ not _ _. absurd (not refl); write_fault = λ e. absurd (omega arith) }
 IsHonest-ended verdict ends.Usage m k ended = record { answer = λ _ _ _. sym (ap (λ (v : Verdict). v.status) ended.0); write_fault = λ e. absurd (omega arith) }
 IsHonest-ended verdict (ends.BadLine line) m k ended = record { answer = λ _ _ _. sym (ap (λ (v : Verdict). v.status) ended.0); write_fault = λ e. absurd (omega arith) }
-IsHonest-ended verdict ends.NotPlain m k ended = record { answer = λ _ _ _. sym (ap (λ (v : Verdict). v.status) ended.0); write_fault = λ e. absurd (omega arith) }
+IsHonest-ended verdict (ends.QueryRefused fault) m k ended = record { answer = λ _ _ _. sym (ap (λ (v : Verdict). v.status) ended.0); write_fault = λ e. absurd (omega arith) }
 IsHonest-ended verdict (ends.TooLong name limit) m k ended = record { answer = λ _ _ _. sym (ap (λ (v : Verdict). v.status) ended.0); write_fault = λ e. absurd (omega arith) }
 
 -- what is known of the one world that is told
@@ -81,7 +81,7 @@ answered_or_7 verdict ends.WriteFault m k ended no5 no6 = absurd (no6 refl)
 answered_or_7 verdict (ends.ReadFault name) m k ended no5 no6 = absurd (no5 refl)
 answered_or_7 verdict ends.Usage m k ended no5 no6 = inl (sym (ap (λ (v : Verdict). v.status) ended.0))
 answered_or_7 verdict (ends.BadLine line) m k ended no5 no6 = inl (sym (ap (λ (v : Verdict). v.status) ended.0))
-answered_or_7 verdict ends.NotPlain m k ended no5 no6 = inl (sym (ap (λ (v : Verdict). v.status) ended.0))
+answered_or_7 verdict (ends.QueryRefused fault) m k ended no5 no6 = inl (sym (ap (λ (v : Verdict). v.status) ended.0))
 answered_or_7 verdict (ends.TooLong name limit) m k ended no5 no6 = inl (sym (ap (λ (v : Verdict). v.status) ended.0))
 
 module _ (verdict : Files → Verdict) (told : Option Meanings) (reads reads_now writes writes_now : ℕ) where
@@ -99,7 +99,7 @@ module _ (verdict : Files → Verdict) (told : Option Meanings) (reads reads_now
   IsComplete-ended ends.Memory m k is ended had = λ _ _. inr refl
   IsComplete-ended ends.Usage m k is ended had = λ _ _. answered_or_7 (verdict m.files) ends.Usage m k ended (λ e. omega arith) (λ e. omega arith)
   IsComplete-ended (ends.BadLine line) m k is ended had = λ _ _. answered_or_7 (verdict m.files) (ends.BadLine line) m k ended (λ e. omega arith) (λ e. omega arith)
-  IsComplete-ended ends.NotPlain m k is ended had = λ _ _. answered_or_7 (verdict m.files) ends.NotPlain m k ended (λ e. omega arith) (λ e. omega arith)
+  IsComplete-ended (ends.QueryRefused fault) m k is ended had = λ _ _. answered_or_7 (verdict m.files) (ends.QueryRefused fault) m k ended (λ e. omega arith) (λ e. omega arith)
   IsComplete-ended (ends.TooLong name limit) m k is ended had = λ _ _. answered_or_7 (verdict m.files) (ends.TooLong name limit) m k ended (λ e. omega arith) (λ e. omega arith)
 
 -- what was printed, and then something was complained
@@ -135,7 +135,7 @@ Outputs-ended verdict ends.Memory said m k n ended complained =
 Outputs-ended verdict (ends.ReadFault name) said m k n ended complained = unprinted verdict (status_of (ends.ReadFault name)) (line_of (ends.ReadFault name)) said m k n (λ e. omega arith) (λ e. omega arith) (λ e. omega arith) (ap (λ (w : Meanings). w.printed) ended) complained
 Outputs-ended verdict ends.Usage said m k n ended complained = unprinted verdict 1 (line_of ends.Usage) said m k n (λ e. omega arith) (λ e. omega arith) (λ e. omega arith) (ap (λ (w : Meanings). w.printed) ended.1) complained
 Outputs-ended verdict (ends.BadLine line) said m k n ended complained = unprinted verdict 2 (line_of (ends.BadLine line)) said m k n (λ e. omega arith) (λ e. omega arith) (λ e. omega arith) (ap (λ (w : Meanings). w.printed) ended.1) complained
-Outputs-ended verdict ends.NotPlain said m k n ended complained = unprinted verdict 3 (line_of ends.NotPlain) said m k n (λ e. omega arith) (λ e. omega arith) (λ e. omega arith) (ap (λ (w : Meanings). w.printed) ended.1) complained
+Outputs-ended verdict (ends.QueryRefused fault) said m k n ended complained = unprinted verdict 3 (line_of (ends.QueryRefused fault)) said m k n (λ e. omega arith) (λ e. omega arith) (λ e. omega arith) (ap (λ (w : Meanings). w.printed) ended.1) complained
 Outputs-ended verdict (ends.TooLong name limit) said m k n ended complained = unprinted verdict 8 (line_of (ends.TooLong name limit)) said m k n (λ e. omega arith) (λ e. omega arith) (λ e. omega arith) (ap (λ (w : Meanings). w.printed) ended.1) complained
 
 -- the line of an ending was complained
@@ -187,5 +187,5 @@ module _ (verdict : Files → Verdict) (told : Option Meanings) (reads reads_now
       }
   Complains-ended ends.Usage said m k n is ended had complained cause = refusal ends.Usage m n 1 ended.0 (λ e. omega arith) (λ e. omega arith) (λ e. omega arith) (line_said ends.Usage said (verdict m.files) says says_now m k n ended complained cause)
   Complains-ended (ends.BadLine line) said m k n is ended had complained cause = refusal (ends.BadLine line) m n 2 ended.0 (λ e. omega arith) (λ e. omega arith) (λ e. omega arith) (line_said (ends.BadLine line) said (verdict m.files) says says_now m k n ended complained cause)
-  Complains-ended ends.NotPlain said m k n is ended had complained cause = refusal ends.NotPlain m n 3 ended.0 (λ e. omega arith) (λ e. omega arith) (λ e. omega arith) (line_said ends.NotPlain said (verdict m.files) says says_now m k n ended complained cause)
+  Complains-ended (ends.QueryRefused fault) said m k n is ended had complained cause = refusal (ends.QueryRefused fault) m n 3 ended.0 (λ e. omega arith) (λ e. omega arith) (λ e. omega arith) (line_said (ends.QueryRefused fault) said (verdict m.files) says says_now m k n ended complained cause)
   Complains-ended (ends.TooLong name limit) said m k n is ended had complained cause = refusal (ends.TooLong name limit) m n 8 ended.0 (λ e. omega arith) (λ e. omega arith) (λ e. omega arith) (line_said (ends.TooLong name limit) said (verdict m.files) says says_now m k n ended complained cause)

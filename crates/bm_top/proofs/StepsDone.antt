@@ -33,7 +33,7 @@ EndsSo-after_read verdict ending m k n read ended =
     same verdict ends.Done m n rest ended = ended
     same verdict ends.Usage m n rest ended = ended
     same verdict (ends.BadLine line) m n rest ended = ended
-    same verdict ends.NotPlain m n rest ended = ended
+    same verdict (ends.QueryRefused fault) m n rest ended = ended
     same verdict (ends.ReadFault name) m n rest ended = ended
     same verdict ends.WriteFault m n rest ended = ended
     same verdict ends.Memory m n rest ended = ended
@@ -117,7 +117,7 @@ module _ (name : List ℕ) (limit : ℕ) (next : Files → List ℕ → Verdict)
   later_reason told mid reads reads_mid reads_now writes writes_now bytes ends.Done later small step why = tt
   later_reason told mid reads reads_mid reads_now writes writes_now bytes ends.Usage later small step why = tt
   later_reason told mid reads reads_mid reads_now writes writes_now bytes (ends.BadLine line) later small step why = tt
-  later_reason told mid reads reads_mid reads_now writes writes_now bytes ends.NotPlain later small step why = tt
+  later_reason told mid reads reads_mid reads_now writes writes_now bytes (ends.QueryRefused fault) later small step why = tt
   later_reason told mid reads reads_mid reads_now writes writes_now bytes ends.Memory later small step why = tt
   later_reason told mid reads reads_mid reads_now writes writes_now bytes (ends.TooLong shown most) later small step why = tt
 

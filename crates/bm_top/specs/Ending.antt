@@ -8,14 +8,15 @@ use Rattle.bm_world.specs.declared.reading.ReadEnd.TheVariants as read_ends
 use Rattle.bm_world.specs.World.{Rose}
 use Rattle.bm_top.specs.declared.ending.Ending.{Ending}
 use Rattle.bm_top.specs.declared.ending.Ending.TheVariants as ends
-use Rattle.bm_top.specs.declared.ending.TheConstants.{USAGE, NOT_PLAIN, WRITE_FAULT, OUT_OF_MEMORY}
+use Rattle.bm_top.specs.declared.ending.TheConstants.{USAGE, WRITE_FAULT, OUT_OF_MEMORY}
+use Rattle.bm_top.specs.QueryLine.{query_line}
 use Rattle.bm_top.specs.Verdict.{Verdict, refused, read_fault_line, limit_line, bad_line_line}
 
 abbrev pub status_of : Ending → ℕ
 status_of ends.Done = 0
 status_of ends.Usage = 1
 status_of (ends.BadLine line) = 2
-status_of ends.NotPlain = 3
+status_of (ends.QueryRefused fault) = 3
 status_of (ends.ReadFault name) = 5
 status_of ends.WriteFault = 6
 status_of ends.Memory = 7
@@ -26,7 +27,7 @@ abbrev pub line_of : Ending → List ℕ
 line_of ends.Done = []
 line_of ends.Usage = USAGE.now
 line_of (ends.BadLine line) = bad_line_line line
-line_of ends.NotPlain = NOT_PLAIN.now
+line_of (ends.QueryRefused fault) = query_line fault
 line_of (ends.ReadFault name) = read_fault_line name.now
 line_of ends.WriteFault = WRITE_FAULT.now
 line_of ends.Memory = OUT_OF_MEMORY.now
@@ -48,7 +49,7 @@ EndsSo verdict ends.Memory m n = ReadOnly m n
 EndsSo verdict (ends.ReadFault name) m n = ReadOnly m n
 EndsSo verdict ends.Usage m n = (verdict ≡ refused 1 USAGE.now) × ReadOnly m n
 EndsSo verdict (ends.BadLine line) m n = (verdict ≡ refused 2 (bad_line_line line)) × ReadOnly m n
-EndsSo verdict ends.NotPlain m n = (verdict ≡ refused 3 NOT_PLAIN.now) × ReadOnly m n
+EndsSo verdict (ends.QueryRefused fault) m n = (verdict ≡ refused 3 (query_line fault)) × ReadOnly m n
 EndsSo verdict (ends.TooLong name limit) m n = (verdict ≡ refused 8 (limit_line name.now limit)) × ReadOnly m n
 
 -- what shows that a call failed, where one did
@@ -59,7 +60,7 @@ Reason verdict told reads reads_now writes writes_now ends.WriteFault = Rose wri
 Reason verdict told reads reads_now writes writes_now ends.Done = Unit {0}
 Reason verdict told reads reads_now writes writes_now ends.Usage = Unit {0}
 Reason verdict told reads reads_now writes writes_now (ends.BadLine line) = Unit {0}
-Reason verdict told reads reads_now writes writes_now ends.NotPlain = Unit {0}
+Reason verdict told reads reads_now writes writes_now (ends.QueryRefused fault) = Unit {0}
 Reason verdict told reads reads_now writes writes_now ends.Memory = Unit {0}
 Reason verdict told reads reads_now writes writes_now (ends.TooLong name limit) = Unit {0}
 

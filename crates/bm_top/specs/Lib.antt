@@ -1,8 +1,7 @@
 pub mod Command
 pub mod Decide
 pub mod Ending
-pub mod Pieces
-pub mod PlainQuery
+pub mod QueryLine
 pub mod Reading
 pub mod RowOrder
 pub mod Run

@@ -3,10 +3,9 @@
 use Rattle.std.specs.Prelude.{ℕ, List, [], ◌∷◌, ◌++◌, map, Option, Some, None, slice_index_or}
 use Rattle.std.specs.List.{flat_map, join_with_byte}
 use Rattle.alg_model.specs.declared.var.Var.{Var}
-use Rattle.alg_model.specs.declared.query.Query.{Query}
+use Rattle.alg_model.specs.Answers.{AbstractQuery}
 use Rattle.alg_model.specs.Row.{Row}
-use Rattle.bm_top.specs.declared.tsv.TheConstants.{TAB, LINE_FEED}
-use Rattle.bm_top.specs.declared.plain_query.TheConstants.{QUESTION}
+use Rattle.bm_top.specs.declared.tsv.TheConstants.{QUESTION, TAB, LINE_FEED}
 
 -- parts with a tab between each two, and a line end
 abbrev pub tsv_line : List (List ℕ) → List ℕ
@@ -27,5 +26,5 @@ abbrev pub tsv_row : Row (List ℕ) → List ℕ
 tsv_row row = tsv_line (map cell_text row)
 
 -- the header, and then a line for each row
-abbrev pub tsv_text : Query → List (Row (List ℕ)) → List ℕ
+abbrev pub tsv_text : AbstractQuery → List (Row (List ℕ)) → List ℕ
 tsv_text query rows = tsv_header query.names query.columns ++ flat_map tsv_row rows

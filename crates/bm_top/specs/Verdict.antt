@@ -1,16 +1,17 @@
 -- The verdict of a command on files: the first step of its order whose condition holds decides. It knows nothing of
 -- how the program works.
-use Rattle.std.specs.Prelude.{ℕ, List, [], ◌++◌, Option, Some, None, nat_lt, length, if◌then◌else◌, decimal}
+use Rattle.std.specs.Prelude.{ℕ, List, [], ◌++◌, Option, Some, None, Result, Ok, Err, nat_lt, length, if◌then◌else◌, decimal}
 use Rattle.std.specs.FinMap.{get}
 use Rattle.bm_term.specs.Graph.{graph_of}
-use Rattle.alg_model.specs.declared.query.Query.{Query}
-use Rattle.alg_model.specs.Answers.{answers_of}
+use Rattle.alg_model.specs.Answers.{AbstractQuery, answers_to}
 use Rattle.nt_read.specs.Lines.{first_bad, lines_of, triples_of}
+use Rattle.sparql_parse.specs.QueryReading.{query_reading}
+use Rattle.sparql_parse.specs.declared.fault.QueryFault.{QueryFault}
 use Rattle.bm_world.specs.Meanings.{Files}
-use Rattle.bm_top.specs.declared.ending.TheConstants.{USAGE, READ_FAULT, LIMIT, IS_LONGER, BYTES, BAD_LINE, NOT_PLAIN, LINE_END}
+use Rattle.bm_top.specs.declared.ending.TheConstants.{USAGE, READ_FAULT, LIMIT, IS_LONGER, BYTES, BAD_LINE, LINE_END}
 use Rattle.bm_top.specs.declared.steps.TheConstants.{MAX_DATA_BYTES, MAX_QUERY_BYTES}
 use Rattle.bm_top.specs.Command.{Request, ask, request_of}
-use Rattle.bm_top.specs.PlainQuery.{query_of}
+use Rattle.bm_top.specs.QueryLine.{query_line}
 use Rattle.bm_top.specs.Tsv.{tsv_text}
 
 -- a status; at 0 the text that is printed, and otherwise the line that is complained
@@ -49,18 +50,18 @@ reading_file name limit (Some bytes) next = within name limit bytes next
 abbrev pub reading : Files → List ℕ → ℕ → (List ℕ → Verdict) → Verdict
 reading files name limit next = reading_file name limit (get files name) next
 
--- a query is answered over the triples of some lines
-abbrev pub answering : List (List ℕ) → Option Query → Verdict
-answering lines None = refused 3 NOT_PLAIN.now
-answering lines (Some query) = answered (tsv_text query (answers_of query (graph_of (triples_of lines))))
+-- what was read as a query is answered over the triples of some lines
+abbrev pub answering : List (List ℕ) → Result AbstractQuery QueryFault → Verdict
+answering lines (Err fault) = refused 3 (query_line fault)
+answering lines (Ok query) = answered (tsv_text query (answers_to query (graph_of (triples_of lines))))
 
-abbrev pub deciding : Option ℕ → List (List ℕ) → Option Query → Verdict
-deciding (Some line) lines query = refused 2 (bad_line_line line)
-deciding None lines query = answering lines query
+abbrev pub deciding : Option ℕ → List (List ℕ) → Result AbstractQuery QueryFault → Verdict
+deciding (Some line) lines reading = refused 2 (bad_line_line line)
+deciding None lines reading = answering lines reading
 
 -- both files have been read: the first bad line, and then the query
 unfoldable pub decided : List ℕ → List ℕ → Verdict
-decided bytes text = deciding (first_bad bytes) (lines_of bytes) (query_of text)
+decided bytes text = deciding (first_bad bytes) (lines_of bytes) (query_reading text)
 
 -- the data has been read: the query file is read
 unfoldable pub query_verdict : Files → List ℕ → List ℕ → Verdict

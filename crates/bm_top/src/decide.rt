@@ -4,16 +4,16 @@ ghost use Rattle.bm_top.specs.Decide.{IsDecided, from_data, from_query};
 use crate::answers::answers;
 use crate::data::read_data;
 use crate::graph::graph;
-use crate::plain_query::{QueryFault, read_query};
 use crate::tsv::tsv;
 use nt_read::FeedFault;
+use sparql_parse::{QueryFault, parse_query};
 use std::alloc::{AllocError, Global};
 
 /// Why there is no text to print.
 #[derive(Clone, Copy, Debug)]
 pub(crate) enum Refusal {
     BadLine { line: u64 },
-    NotPlain,
+    BadQuery { fault: QueryFault },
     Memory,
 }
 
@@ -39,8 +39,8 @@ impl From<QueryFault> for Refusal {
 
     fn from(fault: QueryFault) -> Self {
         match fault {
-            QueryFault::NotPlain => Refusal::NotPlain,
             QueryFault::Memory => Refusal::Memory,
+            fault => Refusal::BadQuery { fault },
         }
     }
 }
@@ -61,7 +61,7 @@ pub(crate) fn decide(alloc: Global, data: Vec<u8>, query: &[u8]) -> Result<Vec<u
     ensures { IsDecided (decided data.items query.now) result }
 {
     let triples = read_data(alloc, data)?;
-    let query = read_query(alloc, query)?;
+    let query = parse_query(alloc, query)?;
     let graph = graph(alloc, triples)?;
     let answers = answers(alloc, &query, &graph)?;
     Ok(tsv(alloc, &query, &answers)?)

@@ -1,3 +1,5 @@
+use sparql_parse::QueryFault;
+
 pub const USAGE: &[u8] =
     b"usage: bitmat ask DATA QUERY tsv|json | load DATA INDEX | query INDEX QUERY tsv|json | check INDEX | explain INDEX QUERY | trial N\n";
 
@@ -11,7 +13,25 @@ pub const BYTES: &[u8] = b" bytes\n";
 
 pub const BAD_LINE: &[u8] = b"data refused: line ";
 
-pub const NOT_PLAIN: &[u8] = b"query refused: not plain\n";
+pub const QUERY_REFUSED: &[u8] = b"query refused: ";
+
+pub const SYNTAX: &[u8] = b"syntax";
+
+pub const UNSUPPORTED: &[u8] = b"unsupported ";
+
+pub const UNKNOWN_PREFIX: &[u8] = b"unknown prefix";
+
+pub const TOO_MANY_VARIABLES: &[u8] = b"too many variables";
+
+pub const TOO_MANY_PATTERNS: &[u8] = b"too many patterns";
+
+pub const TOO_MANY_OPTIONALS: &[u8] = b"too many optionals";
+
+pub const TOO_MANY_GROUPS: &[u8] = b"too many groups";
+
+pub const TOO_DEEP: &[u8] = b"too deep";
+
+pub const AT_BYTE: &[u8] = b" at byte ";
 
 pub const WRITE_FAULT: &[u8] = b"write fault\n";
 
@@ -25,7 +45,7 @@ pub(crate) enum Ending<'a> {
     Done,
     Usage,
     BadLine { line: u64 },
-    NotPlain,
+    QueryRefused { fault: QueryFault },
     ReadFault { name: &'a str },
     WriteFault,
     Memory,
@@ -44,7 +64,7 @@ impl Ending<'_> {
             Ending::Done => 0,
             Ending::Usage => 1,
             Ending::BadLine { .. } => 2,
-            Ending::NotPlain => 3,
+            Ending::QueryRefused { .. } => 3,
             Ending::ReadFault { .. } => 5,
             Ending::WriteFault => 6,
             Ending::Memory => 7,

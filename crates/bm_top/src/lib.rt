@@ -9,8 +9,6 @@ mod data;
 mod decide;
 mod ending;
 mod graph;
-mod pieces;
-mod plain_query;
 mod steps;
 mod top;
 mod tsv;

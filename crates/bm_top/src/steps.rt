@@ -88,7 +88,7 @@ fn print_decided<'a, W: World>(
     match decide(alloc, data, query) {
         Ok(text) => print_ending(print_all(world, &text)),
         Err(Refusal::BadLine { line }) => Ending::BadLine { line },
-        Err(Refusal::NotPlain) => Ending::NotPlain,
+        Err(Refusal::BadQuery { fault }) => Ending::QueryRefused { fault },
         Err(Refusal::Memory) => Ending::Memory,
     }
 }

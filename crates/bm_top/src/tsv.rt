@@ -1,11 +1,13 @@
 ghost use Rattle.std.specs.Prelude.{◌≡◌, ◌<◌, ◌∷◌, ◌++◌, if◌then◌else◌, All, length, IfOk, OnOk};
+ghost use Rattle.alg_model.specs.Answers.{abstract_of};
 ghost use Rattle.bm_top.specs.Tsv.{cell_text, marked_name, tsv_header, tsv_row, tsv_text};
 
 use crate::answer_row::AnswerRow;
-use crate::plain_query::QUESTION;
 use alg_model::{Names, Query, Var};
 use bm_term::Term;
 use std::alloc::{AllocError, Global};
+
+pub const QUESTION: u8 = b'?';
 
 pub const TAB: u8 = b'\t';
 
@@ -18,7 +20,7 @@ pub(crate) fn tsv(
     answers: &[AnswerRow],
 ) -> Result<Vec<u8>, AllocError>
     requires { All (λ column. column.0 < length query.now.names) query.now.columns }
-    ensures { IfOk result (λ text. text.items ≡ tsv_text query.now answers.now) }
+    ensures { IfOk result (λ text. text.items ≡ tsv_text (abstract_of query.now) answers.now) }
 {
     let mut text = Vec::new(alloc);
     push_header(&mut text, query)?;

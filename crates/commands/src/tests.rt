@@ -4,7 +4,7 @@ use std::alloc::{AllocError, Global};
 use std::test::Fail;
 
 // Two triples, and a query of two patterns over them.
-const DATA: &str = "<urn:a> <urn:p> <urn:b> .\n<urn:b> <urn:p> <urn:c> .\n";
+pub(crate) const DATA: &str = "<urn:a> <urn:p> <urn:b> .\n<urn:b> <urn:p> <urn:c> .\n";
 
 const QUERY: &str = "SELECT * { ?x <urn:p> ?y . ?y <urn:p> ?z }";
 
@@ -13,14 +13,14 @@ const ANSWER: &str = "?x\t?y\t?z\n<urn:a>\t<urn:b>\t<urn:c>\n";
 const USAGE: &str =
     "usage: bitmat ask DATA QUERY tsv|json | load DATA INDEX | query INDEX QUERY tsv|json | check INDEX | explain INDEX QUERY | trial N\n";
 
-fn world_of(alloc: Global, data: &str, query: &str) -> Result<MemWorld, AllocError> {
+pub(crate) fn world_of(alloc: Global, data: &str, query: &str) -> Result<MemWorld, AllocError> {
     let mut world = MemWorld::new(alloc);
     world.put_file("d", data.as_bytes())?;
     world.put_file("q", query.as_bytes())?;
     Ok(world)
 }
 
-fn ask(alloc: Global, words: &[&str], world: &mut MemWorld) -> Result<u8, AllocError> {
+pub(crate) fn ask(alloc: Global, words: &[&str], world: &mut MemWorld) -> Result<u8, AllocError> {
     let mut owned = Vec::new(alloc);
     for word in words {
         owned.push(String::from_str(alloc, word)?)?;
@@ -29,7 +29,7 @@ fn ask(alloc: Global, words: &[&str], world: &mut MemWorld) -> Result<u8, AllocE
 }
 
 // A data file, a query and the text that answers it.
-const ANSWERS: [(&str, &str, &str); 20] = [
+const ANSWERS: [(&str, &str, &str); 28] = [
     (DATA, QUERY, ANSWER),
     (
         DATA,
@@ -116,6 +116,39 @@ const ANSWERS: [(&str, &str, &str); 20] = [
         "SELECT * { ?s <urn:p> ?o }",
         "?s\t?o\n<urn:s>\t\"é\\t\"\n",
     ),
+    // Queries without patterns, with a variable as the verb, and with white space behind them.
+    (DATA, "SELECT * {}", "\n\n"),
+    (DATA, "SELECT * { }", "\n\n"),
+    (
+        DATA,
+        "SELECT * { ?x <urn:p> ?y . }",
+        "?x\t?y\n<urn:a>\t<urn:b>\n<urn:b>\t<urn:c>\n",
+    ),
+    (
+        DATA,
+        "SELECT * { ?x <urn:p> ?y }\n\n",
+        "?x\t?y\n<urn:a>\t<urn:b>\n<urn:b>\t<urn:c>\n",
+    ),
+    (
+        DATA,
+        "SELECT * { ?x <urn:p> ?y } ",
+        "?x\t?y\n<urn:a>\t<urn:b>\n<urn:b>\t<urn:c>\n",
+    ),
+    (
+        DATA,
+        "SELECT * { ?x ?p ?y }",
+        "?x\t?p\t?y\n<urn:a>\t<urn:p>\t<urn:b>\n<urn:b>\t<urn:p>\t<urn:c>\n",
+    ),
+    (
+        DATA,
+        "SELECT * { ?x_1 <urn:p> ?y }",
+        "?x_1\t?y\n<urn:a>\t<urn:b>\n<urn:b>\t<urn:c>\n",
+    ),
+    (
+        DATA,
+        "select * { ?x <urn:p> ?y }",
+        "?x\t?y\n<urn:a>\t<urn:b>\n<urn:b>\t<urn:c>\n",
+    ),
 ];
 
 #[test]
@@ -133,7 +166,7 @@ fn queries_are_answered(rt: HostRuntime) -> Result<(), Fail> {
 }
 
 // A data file, a query, the status and the line that is complained.
-const REFUSALS: [(&str, &str, u8, &str); 17] = [
+const REFUSALS: [(&str, &str, u8, &str); 9] = [
     // A surrogate is no character.
     (
         "<urn:a> <urn:p> <urn:b> .\n<urn:b> <urn:p> <urn:c> .\n<urn:s> <urn:p> \"\\uD800\" .\n",
@@ -173,50 +206,12 @@ const REFUSALS: [(&str, &str, u8, &str); 17] = [
     ),
     // The first bad line comes before a query that is none.
     ("x", "y", 2, "data refused: line 1\n"),
-    (DATA, "", 3, "query refused: not plain\n"),
-    (DATA, "SELECT * {}", 3, "query refused: not plain\n"),
-    (DATA, "SELECT * { }", 3, "query refused: not plain\n"),
-    (
-        DATA,
-        "SELECT * { ?x <urn:p> ?y . }",
-        3,
-        "query refused: not plain\n",
-    ),
-    (
-        DATA,
-        "SELECT * { ?x <urn:p> ?y }\n\n",
-        3,
-        "query refused: not plain\n",
-    ),
-    (
-        DATA,
-        "SELECT * { ?x <urn:p> ?y } ",
-        3,
-        "query refused: not plain\n",
-    ),
-    (
-        DATA,
-        "SELECT * { ?x ?p ?y }",
-        3,
-        "query refused: not plain\n",
-    ),
+    (DATA, "", 3, "query refused: syntax at byte 0\n"),
     (
         DATA,
         "SELECT * { ? <urn:p> ?y }",
         3,
-        "query refused: not plain\n",
-    ),
-    (
-        DATA,
-        "SELECT * { ?x_1 <urn:p> ?y }",
-        3,
-        "query refused: not plain\n",
-    ),
-    (
-        DATA,
-        "select * { ?x <urn:p> ?y }",
-        3,
-        "query refused: not plain\n",
+        "query refused: unsupported ? at byte 11\n",
     ),
 ];
 
