@@ -1,11 +1,11 @@
-mod Carrying
+pub mod Carrying
 mod Depth
-mod Endings
+pub mod Endings
 mod Examples
-mod Following
-mod GrammarLaws
+pub mod Following
+pub mod GrammarLaws
 mod Growing
 mod Productions
-mod Remainders
-mod Runs
+pub mod Remainders
+pub mod Runs
 mod Weakenings

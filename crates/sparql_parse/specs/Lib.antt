@@ -1,1 +1,13 @@
-pub mod QueryReading
+pub mod Building
+pub mod Builds
+pub mod Denotes
+pub mod Faults
+pub mod Groups
+pub mod Meaning
+pub mod Names
+pub mod Namespaces
+pub mod Naming
+pub mod Nodes
+pub mod Scopes
+pub mod Readers
+pub mod Reading

@@ -1,0 +1,106 @@
+-- The query of a text, by what is read and built of it.
+use Rattle.std.proofs.Common.{◌≡◌, ◌≢◌, ℕ, ◌<◌, Bool, true, false, if◌then◌else◌, All, List, [], ◌∷◌, length, map, get_or, Some, Result, Ok, Err, refl, ap, subst, ◌∙◌, sym}
+use Rattle.std.proofs.Math.ListN.{get_or-map}
+use Rattle.std.proofs.lemmas.List.{length-map}
+use Rattle.std.proofs.lemmas.Str.{IsUtf8-from_is_utf8, is_utf8-from_IsUtf8, utf8_valid_len-IsValidUpTo}
+use Rattle.std.specs.Str.{IsUtf8, is_utf8}
+use Rattle.std.specs.Str.Lossy.{utf8_valid_len}
+use Rattle.query_tokens.specs.Token.{Lexeme, shown}
+use Rattle.query_tokens.specs.Tokens.{AreTokens}
+use Rattle.query_grammar.specs.declared.expect.Expect.{Expect}
+use Rattle.query_grammar.specs.declared.expect.Expect.TheVariants as expects
+use Rattle.query_grammar.specs.declared.expect.State.{State}
+use Rattle.query_grammar.specs.Roles.{Labelled}
+use Rattle.query_grammar.specs.Tree.{Syntax}
+use Rattle.query_grammar.specs.Grammar.{IsQuery}
+use Rattle.query_grammar.specs.Expecting.{Reading}
+use Rattle.query_grammar.proofs.GrammarLaws.{IsReadToEnd-query}
+use Rattle.alg_model.specs.declared.var.Var.{Var}
+use Rattle.alg_model.specs.Pattern.{Algebra, algebra_of}
+use Rattle.alg_model.specs.Answers.{AbstractQuery}
+use Rattle.sparql_parse.specs.declared.build.ReadToken.{ReadToken}
+use Rattle.sparql_parse.specs.declared.build.Translation.{Translation}
+use Rattle.sparql_parse.specs.declared.fault.QueryFault.{QueryFault}
+use Rattle.sparql_parse.specs.declared.fault.QueryFault.TheVariants as faults
+use Rattle.query_values.specs.Values.{IsSpelled}
+use Rattle.sparql_parse.specs.Names.{names_of}
+use Rattle.sparql_parse.specs.Naming.{Kept}
+use Rattle.sparql_parse.specs.Scopes.{scope_in}
+use Rattle.sparql_parse.specs.Meaning.{Scope, columns_of, pattern_of}
+use Rattle.sparql_parse.specs.Building.{IsBuilt, built, columns_behind}
+use Rattle.sparql_parse.specs.Building as building
+use Rattle.sparql_parse.specs.Builds.{IsTranslation, labelled_in}
+use Rattle.sparql_parse.specs.Denotes.{scope_of}
+use Rattle.sparql_parse.specs.Reading.{and_then, first, is_end, query_at_end, query_of, query_reading, read_on, text_reading, var_of}
+use Rattle.sparql_parse.specs.Readers.{IsKeptOf}
+use Rattle.sparql_parse.proofs.Queries.{query-built}
+use Rattle.sparql_parse.proofs.SourceReading.{tokens_read-is}
+
+-- all tokens of the code are spelled
+pub spelled-items : (xs : List ReadToken) → All (λ l. IsSpelled l.token) (map labelled_in xs) → All (λ r. IsSpelled (shown r.token)) xs
+spelled-items xs all = λ k d inside.
+    let within : k < length (map labelled_in xs) = rw length-map inside in
+    subst (λ (l : Labelled). IsSpelled l.token) (get_or-map labelled_in xs k d) (all k (labelled_in d) within)
+
+-- the query of labelled tokens is what is translated
+abbrev pub query_with : List (List ℕ) → Algebra → List Var → Bool → AbstractQuery
+query_with names pattern columns distinct = record { names = names; pattern = pattern; columns = columns; distinct = distinct }
+
+vars-back : (columns : List Var) → map var_of (map (λ (column : Var). column.0) columns) ≡ columns
+vars-back [] = refl
+vars-back (column ∷ columns) = ap (λ cs. column ∷ cs) (vars-back columns)
+
+query_of-is : (ls : List Labelled) → query_of ls ≡ query_with (names_of ls) (built (scope_of ls) building.start ls).body.whole (map var_of (columns_behind (built (scope_of ls) building.start ls).body.whole (built (scope_of ls) building.start ls).head)) (built (scope_of ls) building.start ls).head.distinct
+unfolding query_of
+query_of-is ls = refl
+
+translated-query : (ls : List Labelled) (tree : Syntax) (t : Translation) → IsQuery tree ls → IsTranslation (scope_of ls) tree t →
+    query_with (names_of ls) (algebra_of t.pattern) t.columns t.distinct ≡ query_of ls
+translated-query ls tree t query is =
+    let scope = scope_of ls in
+    let s = built scope building.start ls in
+    let b : IsBuilt scope tree s = query-built scope tree ls query in
+    let pattern : algebra_of t.pattern ≡ s.body.whole = is.pattern ∙ sym b.pattern in
+    let columns : t.columns ≡ map var_of (columns_behind s.body.whole s.head) =
+    sym (vars-back t.columns) ∙ ap (map var_of) (is.columns ∙ ap (λ p. columns_of scope p tree.columns) pattern ∙ sym b.columns) in
+    let distinct : t.distinct ≡ s.head.distinct = is.distinct ∙ sym b.distinct in
+    ap (λ p. query_with (names_of ls) p t.columns t.distinct) pattern
+    ∙ ap (λ c. query_with (names_of ls) s.body.whole c t.distinct) columns
+    ∙ ap (λ d. query_with (names_of ls) s.body.whole (map var_of (columns_behind s.body.whole s.head)) d) distinct
+    ∙ sym (query_of-is ls)
+
+pub kept-query : (ls : List Labelled) (state : State) (k : Kept) (t : Translation) → IsKeptOf ls state k → state.expect ≡ expects.End →
+    ((tree : Syntax) → IsQuery tree ls → IsTranslation (scope_in k) tree t) →
+    query_with k.names (algebra_of t.pattern) t.columns t.distinct ≡ query_of ls
+kept-query ls state k t kept at_end translated =
+    let (tree, query) = IsReadToEnd-query ls (record { state = state; run = kept.run; at_end = at_end }) in
+    let is : IsTranslation (scope_of ls) tree t = subst (λ (x : Kept). IsTranslation (scope_in x) tree t) kept.same (translated tree query) in
+    ap (λ (x : Kept). query_with x.names (algebra_of t.pattern) t.columns t.distinct) kept.same ∙ translated-query ls tree t query is
+
+-- the end of the tokens
+not_end : (e : Expect) → e ≢ expects.End → is_end e ≡ false
+not_end expects.End other = absurd (other refl)
+not_end _ other = refl
+
+pub ends : (size : ℕ) (r : Reading) → r.state.expect ≡ expects.End → query_at_end size r ≡ Ok (query_of r.labelled)
+ends size r e = ap (λ x. if is_end x then Ok (query_of r.labelled) else Err (faults.Syntax size)) e
+
+pub goes_on : (size : ℕ) (r : Reading) → r.state.expect ≢ expects.End → query_at_end size r ≡ Err (faults.Syntax size)
+goes_on size r other = ap (λ b. if b then Ok (query_of r.labelled) else Err (faults.Syntax size)) (not_end r.state.expect other)
+
+-- what is read of a text, by its tokens
+pub text-read : (text : List ℕ) (tokens : List Lexeme) (read : Result Reading QueryFault) → AreTokens text tokens → read_on first tokens ≡ read →
+    text_reading text ≡ and_then (query_at_end (length text)) read
+unfolding text_reading
+text-read text tokens read are is = ap (λ ts. and_then (query_at_end (length text)) (read_on first ts)) (tokens_read-is text tokens are) ∙ ap (and_then (query_at_end (length text))) is
+
+pub good-reading : (text : List ℕ) → IsUtf8 text → query_reading text ≡ text_reading text
+unfolding query_reading
+good-reading text utf8 = ap (λ b. if b then text_reading text else Err (faults.Syntax (utf8_valid_len text))) (is_utf8-from_IsUtf8 text utf8)
+
+bad-test : (text : List ℕ) → ¬ IsUtf8 text → is_utf8 text ≡ false
+bad-test text bad = elim (is_utf8 text) as (λ b. is_utf8 text ≡ b → b ≡ false) [ true ↦ λ e. absurd (bad (IsUtf8-from_is_utf8 text e)) | false ↦ λ e. refl ] refl
+
+pub bad-reading : (text : List ℕ) → ¬ IsUtf8 text → query_reading text ≡ Err (faults.Syntax (utf8_valid_len text))
+unfolding query_reading
+bad-reading text bad = ap (λ b. if b then text_reading text else Err (faults.Syntax (utf8_valid_len text))) (bad-test text bad)

@@ -1,0 +1,146 @@
+-- One token more of a query.
+use Rattle.std.proofs.Common.{◌≡◌, ℕ, suc, ◌+◌, ◌<◌, ◌≤◌, length, map, drop, get_or, ◌⊎◌, inl, inr, All, List, [], ◌∷◌, ◌++◌, Option, Some, None, Result, Ok, Err, refl, ap, subst, ◌∙◌, sym, arith}
+use Rattle.std.proofs.lemmas.List.Elements.{All-append, All-cons, All-nil}
+use Rattle.std.proofs.lemmas.Bool.Decides.{nat_tests}
+use Rattle.std.proofs.Math.Seq.{drop-cons}
+use Rattle.std.proofs.Math.ListN.{get_or-map}
+use Rattle.std.proofs.lemmas.List.{length-map, map-append, drop_all}
+use Rattle.query_tokens.specs.Token.{Lexeme, shown}
+use Rattle.query_tokens.specs.declared.token.Token.{Token}
+use Rattle.query_tokens.specs.declared.token.TokenKind.{TokenKind}
+use Rattle.query_tokens.specs.declared.token.TokenKind.TheVariants as kinds
+use Rattle.query_grammar.specs.declared.terminal.Terminal.TheVariants as terminals
+use Rattle.query_grammar.specs.declared.expect.Expect.{Expect}
+use Rattle.query_grammar.specs.declared.expect.Expect.TheVariants as expects
+use Rattle.query_grammar.specs.declared.expect.State.{State}
+use Rattle.query_grammar.specs.declared.expect.Step.{Step}
+use Rattle.query_grammar.specs.Terminals.{terminal_of, terminal_of_text}
+use Rattle.query_grammar.specs.Words.{unsupported_word}
+use Rattle.query_grammar.specs.Roles.{Labelled, with_role, tokens_of}
+use Rattle.query_grammar.specs.Expecting.{start, step_at, next_step, Reading, read_tokens}
+use Rattle.query_grammar.proofs.Runs.{read-last, read-nothing}
+use Rattle.sparql_parse.specs.declared.fault.QueryFault.{QueryFault}
+use Rattle.query_values.specs.Values.{IsSpelled}
+use Rattle.sparql_parse.specs.Faults.{Counts, limit_among, is_unknown, open_groups, open_behind, fault_of}
+use Rattle.sparql_parse.specs.Naming.{Kept, kept_of, kept_behind, fault_behind, IsWithin}
+use Rattle.sparql_parse.specs.Names.{names_of}
+use Rattle.sparql_parse.specs.Denotes.{word_fault}
+use Rattle.sparql_parse.specs.Reading.{read_on, and_then, read_step, read_next, unless_fault}
+use Rattle.sparql_parse.specs.Readers.{IsKeptOf, IsSpelledOrBad}
+use Rattle.sparql_parse.proofs.NameLaws.{no_fault-within, no_fault-shallow}
+use Rattle.sparql_parse.proofs.NamingLaws.{kept-more, fault-kept, open-more, step-opens}
+
+-- a token of no terminal symbol is not read
+other-unread : (e : Expect) (n : ℕ) → step_at e n terminals.Other ≡ None
+other-unread e n =
+    elim e as (λ x. step_at x n terminals.Other ≡ None) [ expects.Prologue ↦ refl | expects.DeclaredPrefix ↦ refl | expects.Namespace ↦ refl | expects.Projection ↦ refl | expects.Columns ↦ refl | expects.MoreColumns ↦ refl | expects.WhereOrGroup ↦ refl | expects.Group ↦ refl | expects.Block ↦ refl | expects.AfterElement ↦ refl | expects.AfterSubjectString ↦ refl | expects.SubjectDatatype ↦ refl | expects.Verb ↦ refl | expects.Object ↦ refl | expects.AfterObjectString ↦ refl | expects.ObjectDatatype ↦ refl | expects.AfterObject ↦ refl | expects.AfterSemicolon ↦ refl | expects.End ↦ refl ]
+
+bad-unread : (s : State) (token : Lexeme) → token.kind ≡ kinds.Bad → next_step s (terminal_of token) ≡ None
+unfolding next_step terminal_of
+bad-unread s token bad = ap (λ (k : TokenKind). step_at s.expect s.groups (terminal_of_text k token.text)) bad ∙ other-unread s.expect s.groups
+
+pub read-spelled : (s : State) (token : Lexeme) (step : Step) → next_step s (terminal_of token) ≡ Some step → IsSpelledOrBad token → IsSpelled token
+read-spelled s token step is (inl bad) = let both : None ≡ Some step = sym (bad-unread s token bad) ∙ is in absurd (cc)
+read-spelled s token step is (inr spelled) = spelled
+
+abbrev pub reading_at : List Labelled → State → Reading
+reading_at labelled state = record { labelled = labelled; state = state }
+
+-- the fault of a token that the grammar reads, by what is kept
+opens : (ls : List Labelled) (s : State) (token : Lexeme) (step : Step) → s.groups ≡ open_groups ls → next_step s (terminal_of token) ≡ Some step →
+    step.state.groups ≡ open_groups (ls ++ with_role step.role token ∷ [])
+opens ls s token step opened is =
+    step-opens s (terminal_of token) step is ∙ ap (λ n. open_behind n step.role) opened ∙ sym (open-more ls (with_role step.role token))
+
+pub fault-step : (ls : List Labelled) (s : State) (k : Kept) (token : Lexeme) (step : Step) → IsKeptOf ls s k → next_step s (terminal_of token) ≡ Some step →
+    fault_of ls (with_role step.role token) ≡ fault_behind k step.state.groups (with_role step.role token)
+fault-step ls s k token step is_kept is =
+    let l = with_role step.role token in
+    fault-kept ls l
+    ∙ ap (λ n. fault_behind (kept_of ls) n l) (sym (opens ls s token step is_kept.opened is))
+    ∙ ap (λ (kept : Kept). fault_behind kept step.state.groups l) (sym is_kept.same)
+
+pub kept-step : (ls : List Labelled) (s : State) (k : Kept) (token : Lexeme) (step : Step) → IsKeptOf ls s k → next_step s (terminal_of token) ≡ Some step →
+    fault_behind k step.state.groups (with_role step.role token) ≡ None → IsSpelled token →
+    IsKeptOf (ls ++ with_role step.role token ∷ []) step.state (kept_behind k (with_role step.role token))
+kept-step ls s k token step is_kept is none spelled =
+    let l = with_role step.role token in
+    let tokens_are : tokens_of (ls ++ l ∷ []) ≡ tokens_of ls ++ token ∷ [] = map-append (λ (m : Labelled). m.token) ls (l ∷ []) in
+    record {
+      run = ap (read_tokens start) tokens_are ∙ read-last (tokens_of ls) token start (reading_at ls s) step is_kept.run is;
+      same = ap (λ (kept : Kept). kept_behind kept l) is_kept.same ∙ sym (kept-more ls l);
+      opened = opens ls s token step is_kept.opened is;
+      shallow = no_fault-shallow k step.state.groups l none;
+      within = no_fault-within k step.state.groups l none;
+      spelled = All-append (λ (m : Labelled). IsSpelled m.token) ls (l ∷ []) is_kept.spelled (All-cons (λ (m : Labelled). IsSpelled m.token) l [] spelled (All-nil (λ (m : Labelled). IsSpelled m.token)));
+    }
+
+-- what is read with a token
+pub next-unread : (r : Reading) (token : Lexeme) → next_step r.state (terminal_of token) ≡ None → read_next r token ≡ Err (word_fault token.at (unsupported_word token))
+unfolding read_next
+next-unread r token is = ap (read_step r token) is
+
+abbrev pub reading_behind : Reading → Lexeme → Step → Reading
+reading_behind r token step = record { labelled = r.labelled ++ with_role step.role token ∷ []; state = step.state }
+
+pub next-read : (r : Reading) (token : Lexeme) (step : Step) → next_step r.state (terminal_of token) ≡ Some step → fault_of r.labelled (with_role step.role token) ≡ None →
+    read_next r token ≡ Ok (reading_behind r token step)
+unfolding read_next
+next-read r token step is none = ap (read_step r token) is ∙ ap (unless_fault (reading_behind r token step)) none
+
+pub next-fault : (r : Reading) (token : Lexeme) (step : Step) (fault : QueryFault) → next_step r.state (terminal_of token) ≡ Some step → fault_of r.labelled (with_role step.role token) ≡ Some fault →
+    read_next r token ≡ Err fault
+unfolding read_next
+next-fault r token step fault is some = ap (read_step r token) is ∙ ap (unless_fault (reading_behind r token step)) some
+
+-- before the first token
+open-none : open_groups [] ≡ 0
+unfolding open_groups
+open-none = refl
+
+names-none : names_of [] ≡ []
+unfolding names_of
+names-none = refl
+
+within-none : IsWithin (kept_of []).names (kept_of []).tally
+within-none = rw names-none (record { names = omega arith; objects = omega arith; optionals = omega arith; groups = omega arith })
+
+pub kept-none : IsKeptOf [] start (kept_of [])
+kept-none = record { run = read-nothing start; same = refl; opened = sym open-none; shallow = omega arith; within = within-none; spelled = All-nil (λ (m : Labelled). IsSpelled m.token) }
+
+-- the first of some tokens is read, and then the others
+pub read_on-more : (r next : Reading) (token : Lexeme) (tokens : List Lexeme) → read_next r token ≡ Ok next → read_on r (token ∷ tokens) ≡ read_on next tokens
+unfolding read_on
+read_on-more r next token tokens e = ap (λ x. and_then (λ n. read_on n tokens) x) e
+
+pub read_on-fault : (r : Reading) (fault : QueryFault) (token : Lexeme) (tokens : List Lexeme) → read_next r token ≡ Err fault → read_on r (token ∷ tokens) ≡ Err fault
+unfolding read_on
+read_on-fault r fault token tokens e = ap (λ x. and_then (λ n. read_on n tokens) x) e
+
+pub read_on-all : (r : Reading) → read_on r [] ≡ Ok r
+unfolding read_on
+read_on-all r = refl
+
+-- the tokens of the code from a place on
+shown-drop : (xs : List Token) (i : ℕ) (d : Token) → i < length xs → map shown (drop i xs) ≡ shown (get_or xs i d) ∷ map shown (drop (i + 1) xs)
+shown-drop xs i d inside =
+    let one : suc i ≡ i + 1 = omega arith in
+    ap (map shown) (drop-cons xs i d inside) ∙ ap (λ n. shown (get_or xs i d) ∷ map shown (drop n xs)) one
+
+pub place-fault : (xs : List Token) (i : ℕ) (d : Token) (r : Reading) (fault : QueryFault) → i < length xs →
+    read_next r (shown (get_or xs i d)) ≡ Err fault → read_on r (map shown (drop i xs)) ≡ Err fault
+place-fault xs i d r fault inside e =
+    ap (read_on r) (shown-drop xs i d inside) ∙ read_on-fault r fault (shown (get_or xs i d)) (map shown (drop (i + 1) xs)) e
+
+pub place-more : (xs : List Token) (i : ℕ) (d : Token) (r next : Reading) → i < length xs →
+    read_next r (shown (get_or xs i d)) ≡ Ok next → read_on r (map shown (drop i xs)) ≡ read_on next (map shown (drop (i + 1) xs))
+place-more xs i d r next inside e =
+    ap (read_on r) (shown-drop xs i d inside) ∙ read_on-more r next (shown (get_or xs i d)) (map shown (drop (i + 1) xs)) e
+
+pub place-spelled : (xs : List Token) (i : ℕ) (d : Token) → i < length xs → All IsSpelledOrBad (map shown xs) → IsSpelledOrBad (shown (get_or xs i d))
+place-spelled xs i d inside all =
+    let within : i < length (map shown xs) = rw length-map inside in
+    subst IsSpelledOrBad (get_or-map shown xs i d) (all i (shown d) within)
+
+pub place-end : (xs : List Token) (i : ℕ) (r : Reading) → length xs ≤ i → read_on r (map shown (drop i xs)) ≡ Ok r
+place-end xs i r past = ap (λ ts. read_on r (map shown ts)) (drop_all i xs past) ∙ read_on-all r

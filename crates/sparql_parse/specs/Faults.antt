@@ -1,0 +1,93 @@
+-- The faults of a token that the grammar allows: a prefix without a declaration, and the limits of a query, which are
+-- this project's own. A fault is one of the token and of those before it.
+use Rattle.std.specs.Prelude.{ℕ, ◌+◌, ◌-◌, Bool, true, false, ◌&&◌, nat_lt, is_none, if◌then◌else◌, List, [], ◌∷◌, ◌++◌, length, fold, Option, Some, None}
+use Rattle.query_tokens.specs.declared.token.TokenKind.{TokenKind}
+use Rattle.query_tokens.specs.declared.token.TokenKind.TheVariants as kinds
+use Rattle.sparql_parse.specs.declared.fault.QueryFault.{QueryFault}
+use Rattle.sparql_parse.specs.declared.fault.QueryFault.TheVariants as faults
+use Rattle.query_grammar.specs.declared.syntax.Role.{Role}
+use Rattle.query_grammar.specs.declared.syntax.Role.TheVariants as roles
+use Rattle.query_grammar.specs.Roles.{Labelled}
+use Rattle.query_values.specs.Values.{prefix_of}
+use Rattle.sparql_parse.specs.Names.{Namespace, names_of, namespaces_of, namespace_of}
+
+abbrev pub is_object : Role → Bool
+is_object roles.Object = true
+is_object _ = false
+
+abbrev pub is_optional : Role → Bool
+is_optional roles.Optional = true
+is_optional _ = false
+
+abbrev pub is_open : Role → Bool
+is_open roles.Open = true
+is_open _ = false
+
+abbrev pub is_close : Role → Bool
+is_close roles.Close = true
+is_close _ = false
+
+-- one more, where a token has such a role
+abbrev pub one_more : (Role → Bool) → ℕ → Role → ℕ
+one_more is_such n role = if is_such role then n + 1 else n
+
+-- how many tokens have such a role
+abbrev pub count_of : (Role → Bool) → List Labelled → ℕ
+count_of is_such [] = 0
+count_of is_such (l ∷ ls) = one_more is_such (count_of is_such ls) l.role
+
+-- how many groups are open behind some tokens
+abbrev pub open_behind : ℕ → Role → ℕ
+open_behind n roles.Open = n + 1
+open_behind n roles.Close = n - 1
+open_behind n _ = n
+
+unfoldable pub open_groups : List Labelled → ℕ
+open_groups labelled = fold (λ n l. open_behind n l.role) 0 labelled
+
+-- a prefix that is used as an IRI, or as the front of one, has to be declared before
+abbrev pub uses_prefix : TokenKind → Role → Bool
+uses_prefix kind roles.Declared = false
+uses_prefix kinds.Prefix role = true
+uses_prefix kinds.Prefixed role = true
+uses_prefix _ role = false
+
+abbrev pub is_unknown : List Namespace → Labelled → Bool
+is_unknown namespaces l = uses_prefix l.token.kind l.role && is_none (namespace_of namespaces (prefix_of l.token))
+
+-- how many there are of what has a limit
+pub record Counts : Type 0 where
+  pub names : ℕ
+  pub objects : ℕ
+  pub optionals : ℕ
+  pub depth : ℕ
+  pub groups : ℕ
+
+abbrev pub counts_of : List Labelled → Counts
+counts_of labelled = record {
+  names = length (names_of labelled);
+  objects = count_of is_object labelled;
+  optionals = count_of is_optional labelled;
+  depth = open_groups labelled;
+  groups = count_of is_open labelled;
+}
+
+-- The limits: 64 variables, 256 triple patterns, 63 OPTIONALs, 32 groups that are open at once, 256 groups.
+-- In the order in which they are looked at, at a token that begins with this byte.
+abbrev pub limit_among : ℕ → Counts → Option QueryFault
+limit_among at counts =
+    if nat_lt 64 counts.names then Some (faults.TooManyVariables at)
+    else if nat_lt 256 counts.objects then Some (faults.TooManyPatterns at)
+    else if nat_lt 63 counts.optionals then Some (faults.TooManyOptionals at)
+    else if nat_lt 32 counts.depth then Some (faults.TooDeep at)
+    else if nat_lt 256 counts.groups then Some (faults.TooManyGroups at)
+    else None
+
+-- a prefix comes before the limits
+abbrev pub fault_among : List Namespace → Labelled → Counts → Option QueryFault
+fault_among namespaces l counts =
+    if is_unknown namespaces l then Some (faults.UnknownPrefix l.token.at) else limit_among l.token.at counts
+
+-- the fault of a token behind some others, none of which has one: prefixes are declared before it, and it counts itself
+unfoldable pub fault_of : List Labelled → Labelled → Option QueryFault
+fault_of before l = fault_among (namespaces_of before) l (counts_of (before ++ l ∷ []))

@@ -1,0 +1,34 @@
+-- What the code has read, as the second layer's.
+use Rattle.std.specs.Prelude.{◌≡◌, ◌⊎◌, ◌≤◌, ℕ, All, List, map, Some}
+use Rattle.query_tokens.specs.Token.{Lexeme}
+use Rattle.query_tokens.specs.declared.token.TokenKind.TheVariants as kinds
+use Rattle.query_grammar.specs.Roles.{Labelled, tokens_of}
+use Rattle.query_grammar.specs.Expecting.{Reading, read_tokens, start}
+use Rattle.query_grammar.specs.declared.expect.State.{State}
+use Rattle.sparql_parse.specs.declared.query.Reader.{Reader}
+use Rattle.sparql_parse.specs.Builds.{labelled_in}
+use Rattle.sparql_parse.specs.Faults.{open_groups}
+use Rattle.sparql_parse.specs.Naming.{Kept, kept_of, IsWithin}
+use Rattle.query_values.specs.Values.{IsSpelled}
+
+abbrev pub labels_in : Reader → List Labelled
+labels_in r = map labelled_in r.tokens.items
+
+abbrev pub reading_in : Reader → Reading
+reading_in r = record { labelled = labels_in r; state = r.state }
+
+-- a token is spelled, or bad
+abbrev pub IsSpelledOrBad : Lexeme → Type 0
+IsSpelledOrBad token = (token.kind ≡ kinds.Bad) ⊎ IsSpelled token
+
+-- what is kept is that of the tokens that are read
+pub record IsKeptOf (labelled : List Labelled) (state : State) (kept : Kept) : Type 0 where
+  pub run : read_tokens start (tokens_of labelled) ≡ Some (record { labelled = labelled; state = state })
+  pub same : kept ≡ kept_of labelled
+  pub opened : state.groups ≡ open_groups labelled
+  pub shallow : state.groups ≤ 32
+  pub within : IsWithin kept.names kept.tally
+  pub spelled : All (λ l. IsSpelled l.token) labelled
+
+abbrev pub IsKept : Reader → Type 0
+IsKept r = IsKeptOf (labels_in r) r.state r.naming

@@ -1,0 +1,183 @@
+// The names and prefixes of a query, and its limits.
+ghost use Rattle.std.specs.Prelude.{◌≡◌, ◌⊎◌, ◌<◌, [], OnOk, OnErr, IfErr, IfSome, None, Some, length, position, option_map};
+ghost use Rattle.std.specs.Str.{chars};
+ghost use Rattle.query_tokens.specs.Token.{shown};
+ghost use Rattle.query_grammar.specs.Roles.{with_role};
+ghost use Rattle.query_grammar.specs.Terminals.{terminal_of};
+ghost use Rattle.query_values.specs.Values.{AreIriChars, IsSpelled};
+ghost use Rattle.sparql_parse.specs.Names.{is_text, namespace_of, names_behind};
+ghost use Rattle.sparql_parse.specs.Faults.{is_unknown, uses_prefix};
+ghost use Rattle.sparql_parse.specs.Naming.{IsWithin, fault_behind, is_new_name, kept_behind, kept_of};
+
+use crate::fault::QueryFault;
+use crate::namespaces::Namespaces;
+use crate::tally::Tally;
+use alg_model::Names;
+use query_grammar::{Role, Terminal, terminal_of};
+use query_tokens::{Token, TokenKind};
+use query_values::{prefix, variable_name};
+use std::alloc::{AllocError, Global};
+use std::marker::Model;
+
+/// What is kept of the tokens of a query so far: the names of its variables, the declarations of its
+/// prefixes, and how many there are of what has a limit. Contracts see it as `Kept`.
+#[derive(Debug, Drop)]
+pub(crate) struct Naming {
+    alloc: Global,
+    names: Names,
+    namespaces: Namespaces,
+    tally: Tally,
+}
+
+impl Model for Naming {
+    ghost use Rattle.std.specs.Prelude.{◌≤◌, length};
+    ghost use Rattle.sparql_parse.specs.Naming.{Kept, IsWithin};
+
+    ghost Value = { Kept };
+
+    ghost view = { λ n. record { names = n.names; declarations = n.namespaces; tally = n.tally } };
+
+    ghost invariant = { λ n. IsWithin n.names n.tally };
+}
+
+impl Naming {
+    /// Before the first token.
+    #[tactic(auto, unfolding(crate::specs::Names::names_of, crate::specs::Names::declarations_of))]
+    pub(crate) fn new(alloc: Global) -> Naming
+        ensures { result ≡ kept_of [] }
+    {
+        Naming {
+            alloc,
+            names: Names::new(alloc),
+            namespaces: Namespaces::new(alloc),
+            tally: Tally {
+                objects: 0,
+                optionals: 0,
+                groups: 0,
+            },
+        }
+    }
+
+    /// The number of a variable: the place of its name, if it is there.
+    pub(crate) fn number(&self, name: &[u8]) -> Option<usize>
+        ensures place { result ≡ position (is_text name.now) self.now.names }
+        ensures few { IfSome result (λ number. number < 64) }
+    {
+        self.names.position(name)
+    }
+
+    /// The IRI for which a prefix stands, if it is declared.
+    pub(crate) fn namespace(&self, prefix: &str) -> Option<&str>
+        ensures found { option_map (λ iri. chars iri.now) result ≡ namespace_of self.now.declarations.namespaces (chars prefix.now) }
+        ensures characters { IfSome result (λ iri. AreIriChars (chars iri.now)) }
+    {
+        self.namespaces.find(prefix)
+    }
+
+    /// The names.
+    pub(crate) fn into_names(self) -> Names
+        ensures { result ≡ self.names }
+    {
+        let Naming {
+            alloc: _,
+            names,
+            namespaces: _,
+            tally: _,
+        } = self;
+        names
+    }
+
+    /// Takes a token in its role, behind which so many groups are open. `Err` is the token's fault, and
+    /// then the naming is of no use; or memory ran out.
+    pub(crate) fn take(
+        &mut self,
+        role: Role,
+        token: Token<'_>,
+        depth: usize,
+    ) -> Result<(), QueryFault>
+        requires { IsSpelled (shown token) }
+        ensures kept { OnOk result (self.new ≡ kept_behind self.old (with_role role (shown token.entry))) }
+        ensures none { OnOk result (fault_behind self.old depth (with_role role (shown token.entry)) ≡ None) }
+        ensures fault { IfErr result (λ fault. (fault ≡ QueryFault.Memory) ⊎ (fault_behind self.old depth (with_role role (shown token.entry)) ≡ Some fault)) }
+    {
+        match self.fault(role, token, depth) {
+            Some(fault) => Err(fault),
+            None => Ok(self.keep(role, token)?),
+        }
+    }
+
+    // The fault of a token.
+    fn fault(&self, role: Role, token: Token<'_>, depth: usize) -> Option<QueryFault>
+        requires { IsSpelled (shown token) }
+        ensures { result ≡ fault_behind self.now depth (with_role role (shown token.entry)) }
+    {
+        if self.is_unknown(role, token) {
+            return Some(QueryFault::UnknownPrefix { at: token.at });
+        }
+        let tally = self.tally.behind(role);
+        tally.fault(self.names_behind(token), depth, token.at)
+    }
+
+    // Whether a token uses a prefix that is not declared.
+    fn is_unknown(&self, role: Role, token: Token<'_>) -> bool
+        requires { IsSpelled (shown token) }
+        ensures { result ≡ is_unknown self.now.declarations.namespaces (with_role role (shown token.entry)) }
+    {
+        uses_prefix(token.kind, role) && self.namespaces.find(prefix(token)).is_none()
+    }
+
+    // How many names there are behind a token.
+    fn names_behind(&self, token: Token<'_>) -> usize
+        ensures { result ≡ length (names_behind self.now.names (terminal_of (shown token.entry)) (shown token.entry)) }
+    {
+        if is_new(&self.names, token) {
+            self.names.len() + 1
+        } else {
+            self.names.len()
+        }
+    }
+
+    // Keeps what is to be kept of a token that has no fault.
+    fn keep(&mut self, role: Role, token: Token<'_>) -> Result<(), AllocError>
+        requires spelled { IsSpelled (shown token) }
+        requires within { let behind = kept_behind self.old (with_role role (shown token)) in IsWithin behind.names behind.tally }
+        ensures { OnOk result (self.new ≡ kept_behind self.old (with_role role (shown token.entry))) }
+    {
+        add_name(&mut self.names, token)?;
+        self.namespaces.take(self.alloc, role, token)?;
+        self.tally = self.tally.behind(role);
+        Ok(())
+    }
+}
+
+// Whether a token is a variable whose name is not there yet.
+fn is_new(names: &Names, token: Token<'_>) -> bool
+    ensures { result ≡ is_new_name names.now (terminal_of (shown token.entry)) (shown token.entry) }
+{
+    match terminal_of(&token) {
+        Terminal::Variable => names.position(variable_name(token)).is_none(),
+        _ => false,
+    }
+}
+
+// Puts the name of a variable at the end, unless it is there.
+fn add_name(names: &mut Names, token: Token<'_>) -> Result<(), AllocError>
+    ensures ok { OnOk result (names.new ≡ names_behind names.old (terminal_of (shown token.entry)) (shown token.entry)) }
+    ensures err { OnErr result (names.new ≡ names.old) }
+{
+    if is_new(names, token) {
+        names.push(variable_name(token))?;
+    }
+    Ok(())
+}
+
+// Whether a token of this kind and role uses a prefix.
+fn uses_prefix(kind: TokenKind, role: Role) -> bool
+    ensures { result ≡ uses_prefix kind role }
+{
+    match (kind, role) {
+        (_, Role::Declared) => false,
+        (TokenKind::Prefix | TokenKind::Prefixed, _) => true,
+        _ => false,
+    }
+}

@@ -1,0 +1,73 @@
+// The places of triple patterns: variables by their numbers, and terms.
+ghost use Rattle.std.specs.Prelude.{◌≡◌, IfOk, string_bytes};
+ghost use Rattle.std.specs.Str.{chars};
+ghost use Rattle.query_tokens.specs.Token.{shown};
+ghost use Rattle.sparql_parse.specs.Meaning.{iri_in, namespace_at, number_of, place_of};
+ghost use Rattle.sparql_parse.specs.Nodes.{IsSound, node_in};
+ghost use Rattle.sparql_parse.specs.Scopes.{scope_in};
+ghost use Rattle.query_values.specs.Values.{AreIriChars, IsSpelled, name_of, prefix_of};
+
+use crate::naming::Naming;
+use crate::node::Node;
+use alg_model::{Place, Var};
+use query_tokens::{Token, TokenKind};
+use query_values::{
+    boolean_term, iri, iri_term, number_term, plain_term, prefix, prefixed_iri, tagged_term,
+    type_term, typed_term, variable_name,
+};
+use std::alloc::{AllocError, Global};
+
+/// The number of a variable: the place of its name.
+pub(crate) fn number(scope: &Naming, token: Token<'_>) -> Var
+    ensures { result.0 ≡ number_of (scope_in scope.now).names (name_of (shown token.entry)) }
+{
+    match scope.number(variable_name(token)) {
+        Some(number) => Var(number as u8),
+        None => Var(0),
+    }
+}
+
+// The IRI for which the prefix of a token stands.
+fn namespace<'s>(scope: &'s Naming, token: Token<'_>) -> &'s str
+    requires { IsSpelled (shown token) }
+    ensures namespace { chars result.now ≡ namespace_at (scope_in scope.now) (prefix_of (shown token.entry)) }
+    ensures iri { AreIriChars (chars result.now) }
+{
+    match scope.namespace(prefix(token)) {
+        Some(iri) => iri,
+        None => "",
+    }
+}
+
+// The IRI that a token of any spelling stands for.
+fn iri_of(alloc: Global, scope: &Naming, token: Token<'_>) -> Result<String, AllocError>
+    requires { IsSpelled (shown token) }
+    ensures iri { IfOk result (λ iri. chars (string_bytes iri) ≡ iri_in (scope_in scope.now) (shown token.entry)) }
+    ensures characters { IfOk result (λ iri. AreIriChars (chars (string_bytes iri))) }
+{
+    match token.kind {
+        TokenKind::Prefixed => prefixed_iri(alloc, namespace(scope, token), token),
+        TokenKind::Prefix => String::from_str(alloc, namespace(scope, token)),
+        _ => iri(alloc, token),
+    }
+}
+
+/// The place of a node: a variable, or a term.
+pub(crate) fn place_of(alloc: Global, scope: &Naming, node: Node<'_>) -> Result<Place, AllocError>
+    requires { IsSound (node_in node) }
+    ensures { IfOk result (λ place. place ≡ place_of (scope_in scope.now) (node_in node.entry)) }
+{
+    let term = match node {
+        Node::Variable(token) => return Ok(Place::Var(number(scope, token))),
+        Node::Iri(token) => iri_term(alloc, iri_of(alloc, scope, token)?.as_str())?,
+        Node::Quoted(token) => plain_term(alloc, token)?,
+        Node::Tagged(token, tag) => tagged_term(alloc, token, tag)?,
+        Node::Typed(token, datatype) => {
+            typed_term(alloc, token, iri_of(alloc, scope, datatype)?.as_str())?
+        }
+        Node::Number(token) => number_term(alloc, token)?,
+        Node::Boolean(token) => boolean_term(alloc, token)?,
+        Node::Type(_) => type_term(alloc)?,
+    };
+    Ok(Place::Term(term))
+}
