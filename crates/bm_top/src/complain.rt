@@ -71,12 +71,7 @@ fn complain_fault<W: World>(fault: QueryFault, world: &mut W) -> Result<(), Fail
 }
 
 // Complains a cause, a word that belongs to it, and the byte where it stands.
-fn complain_at<W: World>(
-    world: &mut W,
-    cause: &[u8],
-    word: &str,
-    at: usize,
-) -> Result<(), Failed>
+fn complain_at<W: World>(world: &mut W, cause: &[u8], word: &str, at: usize) -> Result<(), Failed>
     ensures step { Step (W.told world.old) (W.told world.new)
         (AppendsAll with_complained (refused_at cause.now word.now at) result) }
     ensures cause { RisesOnErr (W.say_faults world.old) (W.say_faults world.new) result }
