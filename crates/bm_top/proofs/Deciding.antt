@@ -1,11 +1,11 @@
 -- The verdict once both files have been read.
-use Rattle.std.proofs.Common.{◌≡◌, ℕ, List, None, Ok, Err, ap}
+use Rattle.std.proofs.Common.{◌≡◌, ◌≢◌, ℕ, List, None, Ok, Err, inl, inr, ap}
 use Rattle.bm_term.specs.Graph.{graph_of}
 use Rattle.alg_model.specs.declared.query.Query.{Query}
 use Rattle.alg_model.specs.Answers.{abstract_of, answers_of}
 use Rattle.nt_read.specs.declared.lines.FeedFault.{FeedFault}
 use Rattle.nt_read.specs.declared.lines.FeedFault.TheVariants as feed_faults
-use Rattle.sparql_parse.specs.QueryReading.{query_reading, IsReadAs}
+use Rattle.sparql_parse.specs.Reading.{query_reading, IsMemoryOr}
 use Rattle.sparql_parse.specs.declared.fault.QueryFault.{QueryFault}
 use Rattle.sparql_parse.specs.declared.fault.QueryFault.TheVariants as query_faults
 use Rattle.bm_top.specs.Decide.{IsDecided, from_data, from_query}
@@ -26,17 +26,22 @@ decided-fault : (bytes text : List ℕ) (fault : QueryFault) → first_bad bytes
 unfolding decided
 decided-fault bytes text fault good h = rw good (ap (answering (lines_of bytes)) h)
 
+-- a fault that is not of memory is what was read
+told : (text : List ℕ) (fault : QueryFault) → fault ≢ query_faults.Memory → IsMemoryOr (query_reading text) fault → query_reading text ≡ Err fault
+told text fault other (inl e) = absurd (other e)
+told text fault other (inr e) = e
+
 -- the query was refused
-pub decided-query : (bytes text : List ℕ) (fault : QueryFault) → first_bad bytes ≡ None → IsReadAs (query_reading text) (Err fault) → IsDecided (decided bytes text) (Err (from_query fault))
+pub decided-query : (bytes text : List ℕ) (fault : QueryFault) → first_bad bytes ≡ None → IsMemoryOr (query_reading text) fault → IsDecided (decided bytes text) (Err (from_query fault))
 decided-query bytes text query_faults.Memory good h = tt
-decided-query bytes text (query_faults.Syntax at) good h = decided-fault bytes text (query_faults.Syntax at) good h
-decided-query bytes text (query_faults.Unsupported at word) good h = decided-fault bytes text (query_faults.Unsupported at word) good h
-decided-query bytes text (query_faults.UnknownPrefix at) good h = decided-fault bytes text (query_faults.UnknownPrefix at) good h
-decided-query bytes text (query_faults.TooManyVariables at) good h = decided-fault bytes text (query_faults.TooManyVariables at) good h
-decided-query bytes text (query_faults.TooManyPatterns at) good h = decided-fault bytes text (query_faults.TooManyPatterns at) good h
-decided-query bytes text (query_faults.TooManyOptionals at) good h = decided-fault bytes text (query_faults.TooManyOptionals at) good h
-decided-query bytes text (query_faults.TooManyGroups at) good h = decided-fault bytes text (query_faults.TooManyGroups at) good h
-decided-query bytes text (query_faults.TooDeep at) good h = decided-fault bytes text (query_faults.TooDeep at) good h
+decided-query bytes text (query_faults.Syntax at) good h = decided-fault bytes text (query_faults.Syntax at) good (told text (query_faults.Syntax at) (λ e. absurd (cc)) h)
+decided-query bytes text (query_faults.Unsupported at word) good h = decided-fault bytes text (query_faults.Unsupported at word) good (told text (query_faults.Unsupported at word) (λ e. absurd (cc)) h)
+decided-query bytes text (query_faults.UnknownPrefix at) good h = decided-fault bytes text (query_faults.UnknownPrefix at) good (told text (query_faults.UnknownPrefix at) (λ e. absurd (cc)) h)
+decided-query bytes text (query_faults.TooManyVariables at) good h = decided-fault bytes text (query_faults.TooManyVariables at) good (told text (query_faults.TooManyVariables at) (λ e. absurd (cc)) h)
+decided-query bytes text (query_faults.TooManyPatterns at) good h = decided-fault bytes text (query_faults.TooManyPatterns at) good (told text (query_faults.TooManyPatterns at) (λ e. absurd (cc)) h)
+decided-query bytes text (query_faults.TooManyOptionals at) good h = decided-fault bytes text (query_faults.TooManyOptionals at) good (told text (query_faults.TooManyOptionals at) (λ e. absurd (cc)) h)
+decided-query bytes text (query_faults.TooManyGroups at) good h = decided-fault bytes text (query_faults.TooManyGroups at) good (told text (query_faults.TooManyGroups at) (λ e. absurd (cc)) h)
+decided-query bytes text (query_faults.TooDeep at) good h = decided-fault bytes text (query_faults.TooDeep at) good (told text (query_faults.TooDeep at) (λ e. absurd (cc)) h)
 
 -- both were taken
 pub decided-answered : (bytes text : List ℕ) (query : Query) → first_bad bytes ≡ None → query_reading text ≡ Ok (abstract_of query) → decided bytes text ≡ answered (tsv_text (abstract_of query) (answers_of query (graph_of (triples_of (lines_of bytes)))))

@@ -1,5 +1,5 @@
 -- How many triple patterns there are: at most as many as objects.
-use Rattle.std.proofs.Common.{◌≡◌, ℕ, zero, suc, ◌+◌, ◌≤◌, Bool, true, false, if◌then◌else◌, List, [], ◌∷◌, take, fold, Option, Some, None, refl, sym, ◌∙◌, ap, arith}
+use Rattle.std.proofs.Common.{◌≡◌, ℕ, zero, suc, ◌+◌, ◌≤◌, Bool, true, false, if◌then◌else◌, List, [], ◌∷◌, take, Option, Some, None, refl, sym, ◌∙◌, ap, arith}
 use Rattle.query_tokens.specs.Token.{Lexeme}
 use Rattle.query_grammar.specs.declared.terminal.Terminal.{Terminal}
 use Rattle.query_grammar.specs.declared.syntax.Role.{Role}
@@ -7,7 +7,7 @@ use Rattle.query_grammar.specs.declared.syntax.Role.TheVariants as roles
 use Rattle.query_grammar.specs.Terminals.{terminal_of}
 use Rattle.query_grammar.specs.Roles.{Labelled}
 use Rattle.query_grammar.specs.Tree.{Node}
-use Rattle.sparql_parse.specs.Faults.{count_of, is_object, one_more}
+use Rattle.sparql_parse.specs.Faults.{count_of, is_object}
 use Rattle.sparql_parse.specs.Meaning.{Scope}
 use Rattle.sparql_parse.specs.Building.{State, Body, OpenGroup, step, in_role, built, with_object, body_of, closed, closed_groups, amended, waiting, next_settled}
 

@@ -14,6 +14,7 @@ mod PlaceLaws
 mod Queries
 mod QueryLimits
 mod QueryReading
+mod ReadLimits
 mod ReadingLaws
 mod Runs
 mod SourceReading

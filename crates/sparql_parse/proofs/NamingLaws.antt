@@ -1,5 +1,5 @@
 -- What is kept behind one token more, and the faults by what is kept.
-use Rattle.std.proofs.Common.{◌≡◌, ℕ, zero, suc, ◌+◌, ◌-◌, ◌≤◌, Bool, true, false, if◌then◌else◌, List, [], ◌∷◌, ◌++◌, length, Option, Some, None, refl, ap, subst, ◌∙◌, sym, arith}
+use Rattle.std.proofs.Common.{◌≡◌, ℕ, zero, suc, ◌+◌, ◌-◌, Bool, true, false, if◌then◌else◌, List, [], ◌∷◌, ◌++◌, Option, Some, None, refl, ap, subst, ◌∙◌, arith}
 use Rattle.std.proofs.lemmas.List.Sums.{fold-append}
 use Rattle.query_grammar.specs.declared.terminal.Terminal.{Terminal}
 use Rattle.query_grammar.specs.declared.terminal.Terminal.TheVariants as terminals

@@ -1,8 +1,8 @@
 -- The query of a text, by what is read and built of it.
-use Rattle.std.proofs.Common.{◌≡◌, ◌≢◌, ℕ, ◌<◌, Bool, true, false, if◌then◌else◌, All, List, [], ◌∷◌, length, map, get_or, Some, Result, Ok, Err, refl, ap, subst, ◌∙◌, sym}
+use Rattle.std.proofs.Common.{◌≡◌, ◌≢◌, ℕ, ◌<◌, Bool, true, false, if◌then◌else◌, All, List, [], ◌∷◌, length, map, Result, Ok, Err, refl, ap, subst, ◌∙◌, sym}
 use Rattle.std.proofs.Math.ListN.{get_or-map}
 use Rattle.std.proofs.lemmas.List.{length-map}
-use Rattle.std.proofs.lemmas.Str.{IsUtf8-from_is_utf8, is_utf8-from_IsUtf8, utf8_valid_len-IsValidUpTo}
+use Rattle.std.proofs.lemmas.Str.{IsUtf8-from_is_utf8, is_utf8-from_IsUtf8}
 use Rattle.std.specs.Str.{IsUtf8, is_utf8}
 use Rattle.std.specs.Str.Lossy.{utf8_valid_len}
 use Rattle.query_tokens.specs.Token.{Lexeme, shown}
@@ -26,7 +26,7 @@ use Rattle.query_values.specs.Values.{IsSpelled}
 use Rattle.sparql_parse.specs.Names.{names_of}
 use Rattle.sparql_parse.specs.Naming.{Kept}
 use Rattle.sparql_parse.specs.Scopes.{scope_in}
-use Rattle.sparql_parse.specs.Meaning.{Scope, columns_of, pattern_of}
+use Rattle.sparql_parse.specs.Meaning.{columns_of}
 use Rattle.sparql_parse.specs.Building.{IsBuilt, built, columns_behind}
 use Rattle.sparql_parse.specs.Building as building
 use Rattle.sparql_parse.specs.Builds.{IsTranslation, labelled_in}

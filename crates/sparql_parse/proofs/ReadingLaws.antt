@@ -1,7 +1,6 @@
 -- One token more of a query.
-use Rattle.std.proofs.Common.{◌≡◌, ℕ, suc, ◌+◌, ◌<◌, ◌≤◌, length, map, drop, get_or, ◌⊎◌, inl, inr, All, List, [], ◌∷◌, ◌++◌, Option, Some, None, Result, Ok, Err, refl, ap, subst, ◌∙◌, sym, arith}
+use Rattle.std.proofs.Common.{◌≡◌, ℕ, suc, ◌+◌, ◌<◌, ◌≤◌, length, map, drop, get_or, inl, inr, All, List, [], ◌∷◌, ◌++◌, Some, None, Ok, Err, refl, ap, subst, ◌∙◌, sym, arith}
 use Rattle.std.proofs.lemmas.List.Elements.{All-append, All-cons, All-nil}
-use Rattle.std.proofs.lemmas.Bool.Decides.{nat_tests}
 use Rattle.std.proofs.Math.Seq.{drop-cons}
 use Rattle.std.proofs.Math.ListN.{get_or-map}
 use Rattle.std.proofs.lemmas.List.{length-map, map-append, drop_all}
@@ -21,7 +20,7 @@ use Rattle.query_grammar.specs.Expecting.{start, step_at, next_step, Reading, re
 use Rattle.query_grammar.proofs.Runs.{read-last, read-nothing}
 use Rattle.sparql_parse.specs.declared.fault.QueryFault.{QueryFault}
 use Rattle.query_values.specs.Values.{IsSpelled}
-use Rattle.sparql_parse.specs.Faults.{Counts, limit_among, is_unknown, open_groups, open_behind, fault_of}
+use Rattle.sparql_parse.specs.Faults.{open_groups, open_behind, fault_of}
 use Rattle.sparql_parse.specs.Naming.{Kept, kept_of, kept_behind, fault_behind, IsWithin}
 use Rattle.sparql_parse.specs.Names.{names_of}
 use Rattle.sparql_parse.specs.Denotes.{word_fault}

@@ -1,5 +1,5 @@
 -- What the code has read, as the second layer's.
-use Rattle.std.specs.Prelude.{◌≡◌, ◌⊎◌, ◌≤◌, ℕ, All, List, map, Some}
+use Rattle.std.specs.Prelude.{◌≡◌, ◌⊎◌, ◌≤◌, All, List, map, Some}
 use Rattle.query_tokens.specs.Token.{Lexeme}
 use Rattle.query_tokens.specs.declared.token.TokenKind.TheVariants as kinds
 use Rattle.query_grammar.specs.Roles.{Labelled, tokens_of}

@@ -6,6 +6,7 @@ ghost use Rattle.std.specs.Str.{IsUtf8};
 ghost use Rattle.query_tokens.specs.Token.{shown};
 ghost use Rattle.query_grammar.specs.declared.expect.Expect.{Expect};
 ghost use Rattle.alg_model.specs.Answers.{abstract_of};
+ghost use Rattle.alg_model.specs.Limits.{KeepsLimits};
 ghost use Rattle.sparql_parse.specs.Reading.{IsMemoryOr, first, query_of, query_reading, read_next, read_on, text_reading};
 ghost use Rattle.sparql_parse.specs.Readers.{IsKept, IsSpelledOrBad, labels_in, reading_in};
 ghost use Rattle.sparql_parse.specs.Denotes.{word_fault};
@@ -67,7 +68,8 @@ impl<'a> Reader<'a> {
     fn into_query(self, alloc: Global) -> Result<Query, AllocError>
         requires kept { IsKept self }
         requires at_end { self.state.expect ≡ Expect.End }
-        ensures { IfOk result (λ query. abstract_of query ≡ query_of (labels_in self.entry)) }
+        ensures query { IfOk result (λ query. abstract_of query ≡ query_of (labels_in self.entry)) }
+        ensures limits { IfOk result KeepsLimits }
     {
         let translation = translate(alloc, &self.naming, self.tokens.as_slice())?;
         Ok(Query {
@@ -126,6 +128,7 @@ fn read_all<'a>(alloc: Global, tokens: &[Token<'a>]) -> Result<Reader<'a>, Query
 #[tactic(auto, unfolding(crate::specs::Reading::query_reading))]
 pub fn parse_query(alloc: Global, text: &[u8]) -> Result<Query, QueryFault>
     ensures reads { MatchResult result (λ query. query_reading text.now ≡ Ok (abstract_of query)) (IsMemoryOr (query_reading text.now)) }
+    ensures limits { IfOk result KeepsLimits }
 {
     match str::from_utf8(text) {
         Ok(_) => parse_text(alloc, text),
@@ -138,7 +141,8 @@ pub fn parse_query(alloc: Global, text: &[u8]) -> Result<Query, QueryFault>
 // The same of a text that is UTF-8.
 fn parse_text(alloc: Global, text: &[u8]) -> Result<Query, QueryFault>
     requires { IsUtf8 text.now }
-    ensures { MatchResult result (λ query. text_reading text.now ≡ Ok (abstract_of query)) (IsMemoryOr (text_reading text.now)) }
+    ensures reads { MatchResult result (λ query. text_reading text.now ≡ Ok (abstract_of query)) (IsMemoryOr (text_reading text.now)) }
+    ensures limits { IfOk result KeepsLimits }
 {
     let tokens = tokens(alloc, text)?;
     let reader = match read_all(alloc, tokens.as_slice()) {

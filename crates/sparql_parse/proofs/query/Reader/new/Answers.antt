@@ -1,8 +1,3 @@
-use Rattle.std.proofs.Common.{◌≡◌, [], map, refl, ap, sym, ◌∙◌, arith}
-use Rattle.query_grammar.specs.declared.expect.State.{State}
-use Rattle.query_grammar.specs.Roles.{Labelled}
-use Rattle.sparql_parse.specs.Builds.{labelled_in}
-use Rattle.sparql_parse.specs.Readers.{IsKeptOf}
 use Rattle.sparql_parse.proofs.ReadingLaws.{kept-none}
 use Rattle.sparql_parse.proofs.query.Reader.new.Goals as goal
 

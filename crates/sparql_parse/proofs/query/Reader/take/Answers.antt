@@ -1,11 +1,9 @@
-use Rattle.std.proofs.Common.{◌≡◌, ◌++◌, ◌∷◌, [], inl, inr, Option, Some, None, Ok, Err, refl, ap, subst, sym, ◌∙◌}
+use Rattle.std.proofs.Common.{◌≡◌, inl, inr, Some, Ok, Err, ap, sym, ◌∙◌}
 use Rattle.query_tokens.specs.Token.{shown}
 use Rattle.query_grammar.specs.Expecting.{next_step}
-use Rattle.query_grammar.specs.Roles.{with_role}
 use Rattle.query_grammar.specs.Terminals.{terminal_of}
-use Rattle.sparql_parse.specs.Reading.{read_next}
 use Rattle.sparql_parse.proofs.ReadingLaws.{reading_at}
-use Rattle.sparql_parse.specs.Readers.{IsKeptOf, labels_in, reading_in}
+use Rattle.sparql_parse.specs.Readers.{labels_in, reading_in}
 use Rattle.sparql_parse.proofs.ReadingLaws.{read-spelled, fault-step, kept-step, next-unread, next-read, next-fault}
 use Rattle.sparql_parse.proofs.query.Reader.take.Goals as goal
 
