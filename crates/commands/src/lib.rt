@@ -1,7 +1,9 @@
-//! Tests of whole commands over a world in memory: the one place for tests that cross crates.
+//! Tests of whole commands over a world in memory: words, files, statuses, and each call of a run failing in turn.
+//! Queries have their tables in `queries`.
 #![tactic(auto)]
 
-#[cfg(test)]
-mod query_tests;
+mod asking;
 #[cfg(test)]
 mod tests;
+
+pub use asking::{DATA, ask, world_of};

@@ -1,32 +1,14 @@
-use bm_top::run;
+use crate::asking::{DATA, ask, world_of};
 use bm_world::{MemWorld, WorldCall};
-use std::alloc::{AllocError, Global};
 use std::test::Fail;
 
-// Two triples, and a query of two patterns over them.
-pub(crate) const DATA: &str = "<urn:a> <urn:p> <urn:b> .\n<urn:b> <urn:p> <urn:c> .\n";
-
+// A query of two patterns over the two triples, and its answer.
 const QUERY: &str = "SELECT * { ?x <urn:p> ?y . ?y <urn:p> ?z }";
 
 const ANSWER: &str = "?x\t?y\t?z\n<urn:a>\t<urn:b>\t<urn:c>\n";
 
 const USAGE: &str =
     "usage: bitmat ask DATA QUERY tsv|json | load DATA INDEX | query INDEX QUERY tsv|json | check INDEX | explain INDEX QUERY | trial N\n";
-
-pub(crate) fn world_of(alloc: Global, data: &str, query: &str) -> Result<MemWorld, AllocError> {
-    let mut world = MemWorld::new(alloc);
-    world.put_file("d", data.as_bytes())?;
-    world.put_file("q", query.as_bytes())?;
-    Ok(world)
-}
-
-pub(crate) fn ask(alloc: Global, words: &[&str], world: &mut MemWorld) -> Result<u8, AllocError> {
-    let mut owned = Vec::new(alloc);
-    for word in words {
-        owned.push(String::from_str(alloc, word)?)?;
-    }
-    Ok(run(alloc, owned.as_slice(), world))
-}
 
 // A data file, a query and the text that answers it.
 const ANSWERS: [(&str, &str, &str); 28] = [

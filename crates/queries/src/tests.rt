@@ -1,4 +1,4 @@
-use crate::tests::{DATA, ask, world_of};
+use commands::{DATA, ask, world_of};
 use std::alloc::{AllocError, Global};
 use std::process::Abort;
 use std::test::Fail;
