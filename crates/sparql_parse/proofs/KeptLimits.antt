@@ -7,6 +7,7 @@ use Rattle.query_grammar.specs.Tree.{Syntax}
 use Rattle.query_grammar.specs.Grammar.{IsQuery}
 use Rattle.alg_model.specs.declared.query.Query.{Query}
 use Rattle.alg_model.specs.Pattern.{Algebra, algebra_of}
+use Rattle.alg_model.specs.Answers.{abstract_of}
 use Rattle.alg_model.specs.Limits.{PatternKeepsLimits, KeepsLimits}
 use Rattle.sparql_parse.specs.Names.{names_of}
 use Rattle.sparql_parse.specs.Faults.{count_of, is_object, is_optional}
@@ -18,7 +19,7 @@ use Rattle.sparql_parse.proofs.NamesDiffer.{names-differ}
 use Rattle.sparql_parse.proofs.NameTexts.{AreSpelled, names-texts}
 use Rattle.sparql_parse.proofs.VarLaws.{AreBelow-All}
 
-pub keeps-limits : (tree : Syntax) (labelled : List Labelled) (query : Query) → IsQuery tree labelled → IsMeantBy tree labelled query →
+pub keeps-limits : (tree : Syntax) (labelled : List Labelled) (query : Query) → IsQuery tree labelled → IsMeantBy tree labelled (abstract_of query) →
     length (names_of labelled) ≤ 64 → count_of is_object labelled ≤ 256 → count_of is_optional labelled ≤ 63 →
     AreSpelled labelled → KeepsLimits query
 keeps-limits tree labelled query is meant few objects optionals spelled =

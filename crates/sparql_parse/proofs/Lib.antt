@@ -3,6 +3,9 @@ mod BuildLaws
 mod ColumnLaws
 mod ColumnLimits
 mod Counting
+mod DenotingLaws
+mod FaultFree
+mod FaultFreeRuns
 mod KeptLimits
 mod LimitLaws
 mod NameLaws
@@ -20,4 +23,5 @@ mod Runs
 mod SourceReading
 mod TerminalKinds
 mod Translations
+mod Utf8Fronts
 mod VarLaws

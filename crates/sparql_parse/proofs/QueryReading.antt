@@ -30,7 +30,7 @@ use Rattle.sparql_parse.specs.Meaning.{columns_of}
 use Rattle.sparql_parse.specs.Building.{IsBuilt, built, columns_behind}
 use Rattle.sparql_parse.specs.Building as building
 use Rattle.sparql_parse.specs.Builds.{IsTranslation, labelled_in}
-use Rattle.sparql_parse.specs.Denotes.{scope_of}
+use Rattle.sparql_parse.specs.Denotes.{IsMeantBy, scope_of}
 use Rattle.sparql_parse.specs.Reading.{and_then, first, is_end, query_at_end, query_of, query_reading, read_on, text_reading, var_of}
 use Rattle.sparql_parse.specs.Readers.{IsKeptOf}
 use Rattle.sparql_parse.proofs.Queries.{query-built}
@@ -50,24 +50,46 @@ vars-back : (columns : List Var) → map var_of (map (λ (column : Var). column.
 vars-back [] = refl
 vars-back (column ∷ columns) = ap (λ cs. column ∷ cs) (vars-back columns)
 
+numbers-back : (numbers : List ℕ) → map (λ (column : Var). column.0) (map var_of numbers) ≡ numbers
+numbers-back [] = refl
+numbers-back (n ∷ numbers) = ap (λ ns. n ∷ ns) (numbers-back numbers)
+
 query_of-is : (ls : List Labelled) → query_of ls ≡ query_with (names_of ls) (built (scope_of ls) building.start ls).body.whole (map var_of (columns_behind (built (scope_of ls) building.start ls).body.whole (built (scope_of ls) building.start ls).head)) (built (scope_of ls) building.start ls).head.distinct
 unfolding query_of
 query_of-is ls = refl
 
-translated-query : (ls : List Labelled) (tree : Syntax) (t : Translation) → IsQuery tree ls → IsTranslation (scope_of ls) tree t →
-    query_with (names_of ls) (algebra_of t.pattern) t.columns t.distinct ≡ query_of ls
-translated-query ls tree t query is =
+-- the query of labelled tokens is what they mean
+pub query-meant : (ls : List Labelled) (tree : Syntax) → IsQuery tree ls → IsMeantBy tree ls (query_of ls)
+query-meant ls tree query =
     let scope = scope_of ls in
     let s = built scope building.start ls in
     let b : IsBuilt scope tree s = query-built scope tree ls query in
-    let pattern : algebra_of t.pattern ≡ s.body.whole = is.pattern ∙ sym b.pattern in
-    let columns : t.columns ≡ map var_of (columns_behind s.body.whole s.head) =
-    sym (vars-back t.columns) ∙ ap (map var_of) (is.columns ∙ ap (λ p. columns_of scope p tree.columns) pattern ∙ sym b.columns) in
-    let distinct : t.distinct ≡ s.head.distinct = is.distinct ∙ sym b.distinct in
-    ap (λ p. query_with (names_of ls) p t.columns t.distinct) pattern
-    ∙ ap (λ c. query_with (names_of ls) s.body.whole c t.distinct) columns
-    ∙ ap (λ d. query_with (names_of ls) s.body.whole (map var_of (columns_behind s.body.whole s.head)) d) distinct
-    ∙ sym (query_of-is ls)
+    let columns = columns_behind s.body.whole s.head in
+    let is : IsMeantBy tree ls (query_with (names_of ls) s.body.whole (map var_of columns) s.head.distinct) =
+    record { names = refl; pattern = b.pattern; columns = numbers-back columns ∙ b.columns; distinct = b.distinct } in
+    subst (IsMeantBy tree ls) (sym (query_of-is ls)) is
+
+-- and they mean no other
+pub meant-query : (ls : List Labelled) (tree : Syntax) (query : AbstractQuery) → IsQuery tree ls → IsMeantBy tree ls query → query ≡ query_of ls
+meant-query ls tree query is_query is =
+    let other = query-meant ls tree is_query in
+    let q = query_of ls in
+    let names : query.names ≡ q.names = is.names ∙ sym other.names in
+    let pattern : query.pattern ≡ q.pattern = is.pattern ∙ sym other.pattern in
+    let distinct : query.distinct ≡ q.distinct = is.distinct ∙ sym other.distinct in
+    let numbers : map (λ (column : Var). column.0) query.columns ≡ map (λ (column : Var). column.0) q.columns =
+    is.columns ∙ ap (λ p. columns_of (scope_of ls) p tree.columns) pattern ∙ sym other.columns in
+    let columns : query.columns ≡ q.columns = sym (vars-back query.columns) ∙ ap (map var_of) numbers ∙ vars-back q.columns in
+    ap (λ n. query_with n query.pattern query.columns query.distinct) names
+    ∙ ap (λ p. query_with q.names p query.columns query.distinct) pattern
+    ∙ ap (λ c. query_with q.names q.pattern c query.distinct) columns
+    ∙ ap (query_with q.names q.pattern q.columns) distinct
+
+translated-query : (ls : List Labelled) (tree : Syntax) (t : Translation) → IsQuery tree ls → IsTranslation (scope_of ls) tree t →
+    query_with (names_of ls) (algebra_of t.pattern) t.columns t.distinct ≡ query_of ls
+translated-query ls tree t query is =
+    meant-query ls tree (query_with (names_of ls) (algebra_of t.pattern) t.columns t.distinct) query
+    (record { names = refl; pattern = is.pattern; columns = is.columns; distinct = is.distinct })
 
 pub kept-query : (ls : List Labelled) (state : State) (k : Kept) (t : Translation) → IsKeptOf ls state k → state.expect ≡ expects.End →
     ((tree : Syntax) → IsQuery tree ls → IsTranslation (scope_in k) tree t) →

@@ -9,6 +9,7 @@ use Rattle.query_grammar.proofs.GrammarLaws.{IsReadToEnd-query}
 use Rattle.alg_model.specs.declared.var.Var.{Var}
 use Rattle.alg_model.specs.declared.query.Query.{Query}
 use Rattle.alg_model.specs.Pattern.{Algebra, algebra_of}
+use Rattle.alg_model.specs.Answers.{abstract_of}
 use Rattle.alg_model.specs.Limits.{KeepsLimits}
 use Rattle.query_values.specs.Values.{IsSpelled}
 use Rattle.sparql_parse.specs.declared.build.Translation.{Translation}
@@ -31,7 +32,7 @@ pub kept-limits : (ls : List Labelled) (state : State) (k : Kept) (t : Translati
 kept-limits ls state k t query kept at_end translated names pattern columns distinct =
     let (tree, is_query) = IsReadToEnd-query ls (record { state = state; run = kept.run; at_end = at_end }) in
     let is : IsTranslation (scope_of ls) tree t = subst (λ (x : Kept). IsTranslation (scope_in x) tree t) kept.same (translated tree is_query) in
-    let meant : IsMeantBy tree ls query = record {
+    let meant : IsMeantBy tree ls (abstract_of query) = record {
       names = names ∙ ap (λ (x : Kept). x.names) kept.same;
       pattern = ap algebra_of pattern ∙ is.pattern;
       columns = ap (map (λ (column : Var). column.0)) columns ∙ is.columns ∙ ap (λ (p : Algebra). columns_of (scope_of ls) p tree.columns) (ap algebra_of (sym pattern));

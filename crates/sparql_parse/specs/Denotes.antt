@@ -1,10 +1,9 @@
 -- Which query a text denotes, and which fault a text has. SPARQL 1.1 Query, sections 4, 18.2 and 19.8.
-use Rattle.std.specs.Prelude.{◌≡◌, ℕ, ◌<◌, ◌≤◌, List, [], ◌∷◌, ◌++◌, map, length, take, Option, Some, None}
-use Rattle.std.specs.Str.{IsUtf8}
+use Rattle.std.specs.Prelude.{◌≡◌, ℕ, List, [], ◌∷◌, ◌++◌, map, length, Option, Some, None}
+use Rattle.std.specs.Str.{IsUtf8, IsValidUpTo}
 use Rattle.query_tokens.specs.Token.{Lexeme}
 use Rattle.query_tokens.specs.Tokens.{AreTokens}
-use Rattle.alg_model.specs.declared.query.Query.{Query}
-use Rattle.alg_model.specs.Pattern.{algebra_of}
+use Rattle.alg_model.specs.Answers.{AbstractQuery}
 use Rattle.sparql_parse.specs.declared.fault.QueryFault.{QueryFault}
 use Rattle.sparql_parse.specs.declared.fault.QueryFault.TheVariants as faults
 use Rattle.query_grammar.specs.Roles.{Labelled, tokens_of}
@@ -23,15 +22,15 @@ scope_of labelled = record { names = names_of labelled; namespaces = namespaces_
 abbrev pub HasNoFaults : List Labelled → Type 0
 HasNoFaults labelled = (before behind : List Labelled) (l : Labelled) → labelled ≡ before ++ l ∷ behind → fault_of before l ≡ None
 
--- a query of the code is what a syntax tree means
-pub record IsMeantBy (tree : Syntax) (labelled : List Labelled) (query : Query) : Type 0 where
+-- a query is what a syntax tree means
+pub record IsMeantBy (tree : Syntax) (labelled : List Labelled) (query : AbstractQuery) : Type 0 where
   pub names : query.names ≡ names_of labelled
-  pub pattern : algebra_of query.pattern ≡ pattern_of (scope_of labelled) tree.group
-  pub columns : map (λ column. column.0) query.columns ≡ columns_of (scope_of labelled) (algebra_of query.pattern) tree.columns
+  pub pattern : query.pattern ≡ pattern_of (scope_of labelled) tree.group
+  pub columns : map (λ column. column.0) query.columns ≡ columns_of (scope_of labelled) query.pattern tree.columns
   pub distinct : query.distinct ≡ tree.distinct
 
 -- the text denotes the query
-pub record Denotes (text : List ℕ) (query : Query) : Type 0 where
+pub record Denotes (text : List ℕ) (query : AbstractQuery) : Type 0 where
   pub utf8 : IsUtf8 text
   pub tokens : List Lexeme
   pub labelled : List Labelled
@@ -67,12 +66,6 @@ abbrev pub grammar_fault : ℕ → List Lexeme → QueryFault
 grammar_fault end [] = faults.Syntax end
 grammar_fault end (token ∷ tokens) = word_fault token.at (unsupported_word token)
 
--- the longest front of a text that is UTF-8 has so many bytes, and is not the whole
-pub record IsGoodFront (text : List ℕ) (good : ℕ) : Type 0 where
-  pub within : good < length text
-  pub utf8 : IsUtf8 (take good text)
-  pub longest : (n : ℕ) → good < n → n ≤ length text → ¬ IsUtf8 (take n text)
-
 -- The grammar does not go on at a token, or at the end of the text, and no token before has a fault.
 pub record HasGrammarFault (text : List ℕ) (tokens : List Lexeme) (fault : QueryFault) : Type 0 where
   pub before : List Labelled
@@ -83,8 +76,8 @@ pub record HasGrammarFault (text : List ℕ) (tokens : List Lexeme) (fault : Que
   pub at : HasFaultAt tokens (length before)
   pub is_fault : fault ≡ grammar_fault (length text) behind
 
--- the text has the fault: it is not UTF-8, or the first fault among its tokens
+-- the text has the fault: behind its longest front that is UTF-8, where that is not the whole, or the first among its tokens
 pub data IsFaultOf (text : List ℕ) (fault : QueryFault) : Type 0 where
-  not_utf8 : (good : ℕ) → IsGoodFront text good → fault ≡ faults.Syntax good → IsFaultOf text fault
+  not_utf8 : (good : ℕ) → IsValidUpTo text good → fault ≡ faults.Syntax good → IsFaultOf text fault
   of_token : (tokens : List Lexeme) → IsUtf8 text → AreTokens text tokens → HasOwnFault tokens fault → IsFaultOf text fault
   of_grammar : (tokens : List Lexeme) → IsUtf8 text → AreTokens text tokens → HasGrammarFault text tokens fault → IsFaultOf text fault

@@ -7,6 +7,7 @@ mod build;
 mod columns;
 mod fault;
 mod group;
+mod laws;
 mod namespaces;
 mod naming;
 mod node;
@@ -15,4 +16,5 @@ mod query;
 mod tally;
 
 pub use fault::QueryFault;
+pub use laws::{a_text_denotes_one_query_or_has_one_fault, what_is_read_is_what_is_denoted};
 pub use query::parse_query;

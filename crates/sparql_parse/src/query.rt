@@ -5,11 +5,11 @@ ghost use Rattle.sparql_parse.specs.Builds.{labelled_in};
 ghost use Rattle.std.specs.Str.{IsUtf8};
 ghost use Rattle.query_tokens.specs.Token.{shown};
 ghost use Rattle.query_grammar.specs.declared.expect.Expect.{Expect};
-ghost use Rattle.alg_model.specs.Answers.{abstract_of};
+ghost use Rattle.alg_model.specs.Answers.{AbstractQuery, abstract_of};
 ghost use Rattle.alg_model.specs.Limits.{KeepsLimits};
 ghost use Rattle.sparql_parse.specs.Reading.{IsMemoryOr, first, query_of, query_reading, read_next, read_on, text_reading};
 ghost use Rattle.sparql_parse.specs.Readers.{IsKept, IsSpelledOrBad, labels_in, reading_in};
-ghost use Rattle.sparql_parse.specs.Denotes.{word_fault};
+ghost use Rattle.sparql_parse.specs.Denotes.{Denotes, IsFaultOf, word_fault};
 ghost use Rattle.query_grammar.specs.Words.{unsupported_word};
 
 use crate::build::{ReadToken, translate};
@@ -129,6 +129,12 @@ fn read_all<'a>(alloc: Global, tokens: &[Token<'a>]) -> Result<Reader<'a>, Query
 pub fn parse_query(alloc: Global, text: &[u8]) -> Result<Query, QueryFault>
     ensures reads { MatchResult result (λ query. query_reading text.now ≡ Ok (abstract_of query)) (IsMemoryOr (query_reading text.now)) }
     ensures limits { IfOk result KeepsLimits }
+    ensures denotes { IfOk result (λ query. Denotes text.now (abstract_of query)) }
+    ensures fault { IfErr result (λ fault. (fault ≡ QueryFault.Memory) ⊎ IsFaultOf text.now fault) }
+    ensures only_query { (query : AbstractQuery) → Denotes text.now query →
+        MatchResult result (λ answer. abstract_of answer ≡ query) (λ fault. fault ≡ QueryFault.Memory) }
+    ensures only_fault { (fault : QueryFault) → IsFaultOf text.now fault →
+        MatchResult result (λ query. ⊥) (λ answer. (answer ≡ QueryFault.Memory) ⊎ (answer ≡ fault)) }
 {
     match str::from_utf8(text) {
         Ok(_) => parse_text(alloc, text),
