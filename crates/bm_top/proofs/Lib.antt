@@ -6,4 +6,5 @@ pub mod Examples
 pub mod LinePieces
 pub mod Lists
 pub mod Promises
+pub mod StandardLaws
 pub mod StepsDone

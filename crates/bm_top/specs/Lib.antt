@@ -5,5 +5,6 @@ pub mod QueryLine
 pub mod Reading
 pub mod RowOrder
 pub mod Run
+pub mod Standard
 pub mod Tsv
 pub mod Verdict

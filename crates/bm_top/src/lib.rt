@@ -9,8 +9,10 @@ mod data;
 mod decide;
 mod ending;
 mod graph;
+mod laws;
 mod steps;
 mod top;
 mod tsv;
 
+pub use laws::the_verdict_is_the_standards;
 pub use top::run;

@@ -1,8 +1,9 @@
-ghost use Rattle.std.specs.Prelude.{◌≡◌, ◌≢◌, map};
+ghost use Rattle.std.specs.Prelude.{◌≡◌, ◌≢◌, ℕ, List, map};
 ghost use Rattle.std.specs.String.{string_bytes};
 ghost use Rattle.bm_world.specs.World.{Step, Rose};
 ghost use Rattle.bm_top.specs.Command.{request_of};
 ghost use Rattle.bm_top.specs.Run.{IsComplete, IsHonest, Outputs, KeepsFiles, HasCauses, Complains};
+ghost use Rattle.bm_top.specs.Standard.{Asks, IsAnswer, Prints};
 ghost use Rattle.bm_top.specs.Verdict.{verdict_of};
 
 use crate::command::parse_words;
@@ -16,6 +17,12 @@ use std::alloc::Global;
 /// bad line; 3 where the query is refused; 5 where a file was not read, and 6 where the output was not
 /// written; 7 where memory ran out; 8 where a file is too long.
 pub fn run<W: World>(alloc: Global, words: &[String], world: &mut W) -> u8
+    // The headline: what is printed is the text of the solutions of the query that the one file denotes over the set
+    // of triples that the other spells.
+    ensures answers { Step (W.told world.old) (W.told world.new) (λ m n. (bytes text printed : List ℕ) →
+        Asks (map string_bytes words.now) m.files bytes text → IsAnswer bytes text printed →
+        Prints printed (W.read_faults world.old) (W.read_faults world.new) (W.write_faults world.old) (W.write_faults world.new) result m n) }
+
     ensures usage { request_of (map string_bytes words.now) ≡ None → result ≡ 1 }
 
     // With no failing call, the status is that of the verdict, or 7.

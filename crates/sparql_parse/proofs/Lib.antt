@@ -3,7 +3,7 @@ mod BuildLaws
 mod ColumnLaws
 mod ColumnLimits
 mod Counting
-mod DenotingLaws
+pub mod DenotingLaws
 mod FaultFree
 mod FaultFreeRuns
 mod KeptLimits

@@ -6,6 +6,7 @@ use Rattle.bm_top.specs.Command.{requested}
 use Rattle.bm_top.specs.Verdict.{Verdict, verdict_at}
 use Rattle.bm_top.proofs.StepsDone.{Step-known}
 use Rattle.bm_top.proofs.Promises.{IsComplete-ended, IsHonest-ended, Outputs-ended, KeepsFiles-ended, Complains-ended}
+use Rattle.bm_top.proofs.StandardLaws.{answers-printed}
 use Rattle.bm_top.proofs.top.run.Goals as goal
 
 pub returns-clause-usage : goal.returns-clause-usage
@@ -38,3 +39,6 @@ returns-clause-refusal_line g c =
     rw (← c.parse_words.ensures, c.status.ensures, c.complain_ending.ensures.read_faults_stay, ← c.perform-ending.ensures.say_faults_stay)
     (Step-then (Step-known c.perform-ending.ensures.step) c.complain_ending.ensures.step
     (λ m k n known said. Complains-ended verdict _ _ _ _ _ _ _ c.perform-ending.result c.complain_ending.result m k n known.1 known.0 c.perform-ending.ensures.reason said c.complain_ending.ensures.cause.failed))
+
+pub returns-clause-answers : goal.returns-clause-answers
+returns-clause-answers g c = answers-printed _ _ _ _ _ _ _ _ (returns-clause-complete g c) (returns-clause-output g c)

@@ -1,0 +1,11 @@
+use Rattle.bm_top.proofs.StandardLaws.{answer-decided, bad_line-decided, decided-answer, refusal-decided}
+use Rattle.bm_top.proofs.laws.the_verdict_is_the_standards.Goals as goal
+
+pub returns-clause-answer : goal.returns-clause-answer
+returns-clause-answer c = λ bytes text printed. (decided-answer bytes text printed, answer-decided bytes text printed)
+
+pub returns-clause-bad_line : goal.returns-clause-bad_line
+returns-clause-bad_line c = bad_line-decided
+
+pub returns-clause-refusal : goal.returns-clause-refusal
+returns-clause-refusal c = refusal-decided

@@ -1,0 +1,13 @@
+// The verdict and the standards. The call does nothing: its contract is the law.
+ghost use Rattle.std.specs.Prelude.{◌≡◌, ◌↔◌, ℕ, List};
+ghost use Rattle.nt_read.specs.Lines.{IsFirstBadLine};
+ghost use Rattle.bm_top.specs.Standard.{IsAnswer, IsRefusal};
+ghost use Rattle.bm_top.specs.Verdict.{answered, bad_line_line, decided, refused};
+
+/// The verdict on data and a query is the standards': the text of the query's solutions over the set of triples, or
+/// the line of the first bad line, or the line of the query's first fault.
+pub fn the_verdict_is_the_standards()
+    ensures answer { (bytes text printed : List ℕ) → (decided bytes text ≡ answered printed) ↔ IsAnswer bytes text printed }
+    ensures bad_line { (bytes text : List ℕ) (n : ℕ) → IsFirstBadLine bytes n → decided bytes text ≡ refused 2 (bad_line_line n) }
+    ensures refusal { (bytes text line : List ℕ) → IsRefusal bytes text line → decided bytes text ≡ refused 3 line }
+{}
