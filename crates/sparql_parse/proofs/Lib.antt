@@ -15,6 +15,7 @@ mod NamespaceLaws
 mod NamingLaws
 mod PlaceLaws
 mod Queries
+mod QueryExamples
 mod QueryLimits
 mod QueryReading
 mod ReadLimits
