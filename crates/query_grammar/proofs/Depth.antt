@@ -1,9 +1,8 @@
 -- The groups that a state counts as open are the '{' that were read less the '}'.
-use Rattle.std.proofs.Common.{◌≡◌, ℕ, zero, suc, ◌+◌, Bool, true, false, List, [], ◌∷◌, Some, refl, sym, ap, arith, rules}
+use Rattle.std.proofs.Common.{◌≡◌, ℕ, zero, suc, ◌+◌, List, [], ◌∷◌, Some, refl, sym, ap, arith, rules}
 use Rattle.query_tokens.specs.Token.{Lexeme}
 use Rattle.query_grammar.specs.declared.terminal.Terminal.{Terminal}
 use Rattle.query_grammar.specs.declared.terminal.Terminal.TheVariants as terminals
-use Rattle.query_grammar.specs.declared.syntax.Role.{Role}
 use Rattle.query_grammar.specs.declared.expect.Expect.{Expect}
 use Rattle.query_grammar.specs.declared.expect.Expect.TheVariants as expects
 use Rattle.query_grammar.specs.declared.expect.State.{State}
@@ -11,6 +10,7 @@ use Rattle.query_grammar.specs.Terminals.{terminal_of}
 use Rattle.query_grammar.specs.Roles.{Labelled, is_open, is_close, count_of, open_groups}
 use Rattle.query_grammar.specs.Expecting.{start, closed, step_at, next_step, Reading, read_tokens}
 use Rattle.query_grammar.proofs.Carrying.{Reads}
+use Rattle.query_grammar.proofs.Counts.{one_if, count-cons}
 use Rattle.query_grammar.proofs.Following.{OnStep, on-step}
 use Rattle.query_grammar.proofs.Runs.{run-reads}
 
@@ -32,14 +32,10 @@ IsPlaced expects.AfterObject n = IsPositive n
 IsPlaced expects.AfterSemicolon n = IsPositive n
 IsPlaced _ n = Unit {0}
 
-abbrev one : Bool → ℕ
-one true = 1
-one false = 0
-
 -- a step keeps states placed, and counts its token
 abbrev Counts : Expect → ℕ → Terminal → Type 0
 Counts expect n terminal = OnStep (step_at expect n terminal) (λ step. IsPlaced expect n →
-    IsPlaced step.state.expect step.state.groups × (step.state.groups + one (is_close step.role) ≡ n + one (is_open step.role)))
+    IsPlaced step.state.expect step.state.groups × (step.state.groups + one_if (is_close step.role) ≡ n + one_if (is_open step.role)))
 
 opened : (n : ℕ) → suc n + 0 ≡ n + 1
 opened n = omega arith
@@ -93,22 +89,18 @@ counts expects.AfterSemicolon n terminals.Close = λ placed. closed-counts n pla
 counts expects.AfterSemicolon n _ = search rules
 counts expects.End n terminal = tt
 
-count-cons : (is_such : Role → Bool) (l : Labelled) (ls : List Labelled) → (here : Bool) → is_such l.role ≡ here → count_of is_such (l ∷ ls) ≡ one (is_such l.role) + count_of is_such ls
-count-cons is_such l ls true is = rw is (omega arith)
-count-cons is_such l ls false is = rw is (omega arith)
-
 reads-counts : (ls : List Labelled) (last state : State) → IsPlaced state.expect state.groups → Reads last state ls →
     last.groups + count_of is_close ls ≡ state.groups + count_of is_open ls
 unfolding next_step
 reads-counts [] last state placed e = ap (λ (s : State). s.groups + 0) (sym e)
 reads-counts (l ∷ ls) last state placed (next, is, rest) =
     let here = on-step (step_at state.expect state.groups (terminal_of l.token))
-    (λ step. IsPlaced state.expect state.groups → IsPlaced step.state.expect step.state.groups × (step.state.groups + one (is_close step.role) ≡ state.groups + one (is_open step.role)))
+    (λ step. IsPlaced state.expect state.groups → IsPlaced step.state.expect step.state.groups × (step.state.groups + one_if (is_close step.role) ≡ state.groups + one_if (is_open step.role)))
     (record { state = next; role = l.role }) is (counts state.expect state.groups (terminal_of l.token)) placed in
     let behind : last.groups + count_of is_close ls ≡ next.groups + count_of is_open ls = reads-counts ls last next here.0 rest in
-    let counted : next.groups + one (is_close l.role) ≡ state.groups + one (is_open l.role) = here.1 in
-    let closes = count-cons is_close l ls (is_close l.role) refl in
-    let opens = count-cons is_open l ls (is_open l.role) refl in
+    let counted : next.groups + one_if (is_close l.role) ≡ state.groups + one_if (is_open l.role) = here.1 in
+    let closes = count-cons is_close l ls in
+    let opens = count-cons is_open l ls in
     omega arith
 
 -- the groups of a state are those that the run opened and did not close

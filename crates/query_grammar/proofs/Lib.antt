@@ -1,5 +1,6 @@
 pub mod Carrying
-mod Depth
+pub mod Counts
+pub mod Depth
 pub mod Endings
 mod Examples
 pub mod Following

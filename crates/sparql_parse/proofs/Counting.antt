@@ -1,13 +1,14 @@
 -- How many triple patterns there are: at most as many as objects.
-use Rattle.std.proofs.Common.{◌≡◌, ℕ, zero, suc, ◌+◌, ◌≤◌, Bool, true, false, if◌then◌else◌, List, [], ◌∷◌, take, Option, Some, None, refl, sym, ◌∙◌, ap, arith}
+use Rattle.std.proofs.Common.{◌≡◌, ℕ, zero, suc, ◌+◌, ◌≤◌, Bool, List, [], ◌∷◌, take, Option, Some, None, refl, sym, ap, arith}
 use Rattle.query_tokens.specs.Token.{Lexeme}
 use Rattle.query_grammar.specs.declared.terminal.Terminal.{Terminal}
 use Rattle.query_grammar.specs.declared.syntax.Role.{Role}
 use Rattle.query_grammar.specs.declared.syntax.Role.TheVariants as roles
 use Rattle.query_grammar.specs.Terminals.{terminal_of}
-use Rattle.query_grammar.specs.Roles.{Labelled}
+use Rattle.query_grammar.specs.Roles.{Labelled, count_of}
 use Rattle.query_grammar.specs.Tree.{Node}
-use Rattle.sparql_parse.specs.Faults.{count_of, is_object}
+use Rattle.query_grammar.proofs.Counts.{one_if, count-cons}
+use Rattle.sparql_parse.specs.Faults.{is_object}
 use Rattle.sparql_parse.specs.Meaning.{Scope}
 use Rattle.sparql_parse.specs.Building.{State, Body, OpenGroup, step, in_role, built, with_object, body_of, closed, closed_groups, amended, waiting, next_settled}
 
@@ -23,10 +24,6 @@ closed_groups-next (g ∷ outer ∷ gs) b = refl
 amended-next : (f : Node → Node) (s : State) (object : Option Node) → s.object ≡ object → next_settled (amended f s object) ≡ next_settled s
 amended-next f s None e = refl
 amended-next f s (Some object) e = ap (λ (o : Option Node). s.body.next + waiting o) (sym e)
-
-abbrev pub one_if : Bool → ℕ
-one_if true = 1
-one_if false = 0
 
 in_role-next : (scope : Scope) (s : State) (role : Role) (terminal : Terminal) (token : Lexeme) → next_settled (in_role scope s role terminal token) ≤ next_settled s + one_if (is_object role)
 in_role-next scope s roles.Distinct terminal token = omega arith
@@ -48,36 +45,28 @@ step-next : (scope : Scope) (s : State) (l : Labelled) → next_settled (step sc
 unfolding step
 step-next scope s l = in_role-next scope s l.role (terminal_of l.token) l.token
 
--- how many tokens have such a role, from the first token on
-abbrev pub tally : (Role → Bool) → List Labelled → ℕ
-tally p [] = 0
-tally p (l ∷ ls) = tally p ls + one_if (p l.role)
+-- some of the tokens
+count-take : (p : Role → Bool) (ls : List Labelled) (i : ℕ) → count_of p (take i ls) ≤ count_of p ls
+count-take p [] zero = omega arith
+count-take p [] (suc i) = omega arith
+count-take p (l ∷ ls) zero = omega arith
+count-take p (l ∷ ls) (suc i) =
+    let rest = count-take p ls i in
+    let taken = count-cons p l (take i ls) in
+    let all = count-cons p l ls in
+    omega arith
 
-one_more-if : (b : Bool) (n : ℕ) → (if b then n + 1 else n) ≡ n + one_if b
-one_more-if true n = refl
-one_more-if false n = omega arith
-
-pub count_of-tally : (p : Role → Bool) (ls : List Labelled) → count_of p ls ≡ tally p ls
-count_of-tally p [] = refl
-count_of-tally p (l ∷ ls) = one_more-if (p l.role) (count_of p ls) ∙ ap (λ n. n + one_if (p l.role)) (count_of-tally p ls)
-
-pub tally-take : (p : Role → Bool) (ls : List Labelled) (i : ℕ) → tally p (take i ls) ≤ tally p ls
-tally-take p [] zero = omega arith
-tally-take p [] (suc i) = omega arith
-tally-take p (l ∷ ls) zero = omega arith
-tally-take p (l ∷ ls) (suc i) = let rest = tally-take p ls i in omega arith
-
-pub built-next : (scope : Scope) (s : State) (ls : List Labelled) → next_settled (built scope s ls) ≤ next_settled s + tally is_object ls
+pub built-next : (scope : Scope) (s : State) (ls : List Labelled) → next_settled (built scope s ls) ≤ next_settled s + count_of is_object ls
 built-next scope s [] = omega arith
 built-next scope s (l ∷ ls) =
     let rest = built-next scope (step scope s l) ls in
     let here = step-next scope s l in
+    let count = count-cons is_object l ls in
     omega arith
 
 -- the number of the next triple pattern behind some of the tokens
 pub next-bound : (scope : Scope) (s : State) (ls : List Labelled) (i : ℕ) → (built scope s (take i ls)).body.next ≤ next_settled s + count_of is_object ls
 next-bound scope s ls i =
     let a = built-next scope s (take i ls) in
-    let b = tally-take is_object ls i in
-    let e = count_of-tally is_object ls in
+    let b = count-take is_object ls i in
     omega arith

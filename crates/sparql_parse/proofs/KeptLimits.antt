@@ -2,7 +2,7 @@
 use Rattle.std.proofs.Common.{◌≡◌, ◌≢◌, ℕ, ◌≤◌, ◌<◌, List, map, length, sym, ◌∙◌, ap, subst}
 use Rattle.std.specs.Prelude.{All, AllPairs}
 use Rattle.std.specs.Str.{IsUtf8}
-use Rattle.query_grammar.specs.Roles.{Labelled}
+use Rattle.query_grammar.specs.Roles.{Labelled, count_of}
 use Rattle.query_grammar.specs.Tree.{Syntax}
 use Rattle.query_grammar.specs.Grammar.{IsQuery}
 use Rattle.alg_model.specs.declared.query.Query.{Query}
@@ -10,7 +10,7 @@ use Rattle.alg_model.specs.Pattern.{Algebra, algebra_of}
 use Rattle.alg_model.specs.Answers.{abstract_of}
 use Rattle.alg_model.specs.Limits.{PatternKeepsLimits, KeepsLimits}
 use Rattle.sparql_parse.specs.Names.{names_of}
-use Rattle.sparql_parse.specs.Faults.{count_of, is_object, is_optional}
+use Rattle.sparql_parse.specs.Faults.{is_object, is_optional}
 use Rattle.sparql_parse.specs.Meaning.{pattern_of, columns_of}
 use Rattle.sparql_parse.specs.Denotes.{scope_of, IsMeantBy}
 use Rattle.sparql_parse.proofs.QueryLimits.{names-fine, pattern-limits}

@@ -7,16 +7,17 @@ use Rattle.query_grammar.specs.declared.terminal.Terminal.{Terminal}
 use Rattle.query_grammar.specs.declared.syntax.Role.{Role}
 use Rattle.query_grammar.specs.declared.syntax.Role.TheVariants as roles
 use Rattle.query_grammar.specs.Terminals.{terminal_of}
-use Rattle.query_grammar.specs.Roles.{Labelled}
+use Rattle.query_grammar.specs.Roles.{Labelled, count_of}
 use Rattle.query_grammar.specs.Tree.{Node, Same, Parts, NoParts, OptionalPart, NestedPart, Group, Syntax}
 use Rattle.query_grammar.specs.Grammar.{IsQuery}
+use Rattle.query_grammar.proofs.Counts.{one_if, count-cons}
 use Rattle.alg_model.specs.declared.pattern.TriplePat.{TriplePat}
 use Rattle.alg_model.specs.Pattern.{Algebra, Joined, Optional}
 use Rattle.alg_model.specs.Limits.{triple_patterns, optional_parts}
-use Rattle.sparql_parse.specs.Faults.{count_of, is_object, is_optional}
+use Rattle.sparql_parse.specs.Faults.{is_object, is_optional}
 use Rattle.sparql_parse.specs.Meaning.{Scope, NodeTriple, Translated, triples_of_block, patterns_from, empty_group, with_block, with_parts, pattern_of}
 use Rattle.sparql_parse.specs.Building.{State, Body, OpenGroup, step, in_role, built, start, with_object, body_of, closed_groups, amended, in_innermost, joined_block, pattern_so_far, combined, with_tag, with_datatype}
-use Rattle.sparql_parse.proofs.Counting.{one_if, tally, count_of-tally, built-next}
+use Rattle.sparql_parse.proofs.Counting.{built-next}
 use Rattle.sparql_parse.proofs.Queries.{query-built, query-next}
 
 -- numbered in a row from m on
@@ -155,24 +156,23 @@ step-optionals : (scope : Scope) (s : State) (l : Labelled) → optionals (step 
 unfolding step
 step-optionals scope s l = in_role-optionals scope s l.role (terminal_of l.token) l.token
 
-built-optionals : (scope : Scope) (s : State) (ls : List Labelled) → optionals (built scope s ls) ≤ optionals s + tally is_optional ls
+built-optionals : (scope : Scope) (s : State) (ls : List Labelled) → optionals (built scope s ls) ≤ optionals s + count_of is_optional ls
 built-optionals scope s [] = omega arith
 built-optionals scope s (l ∷ ls) =
     let rest = built-optionals scope (step scope s l) ls in
     let here = step-optionals scope s l in
+    let count = count-cons is_optional l ls in
     omega arith
 
 pub pattern-optionals : (scope : Scope) (tree : Syntax) (labelled : List Labelled) → IsQuery tree labelled → optional_parts (pattern_of scope tree.group) ≤ count_of is_optional labelled
 pattern-optionals scope tree labelled query =
     let a = built-optionals scope start labelled in
-    let b = count_of-tally is_optional labelled in
-    let c = ap optional_parts (query-built scope tree labelled query).pattern in
-    omega (arith, a, b, c)
+    let b = ap optional_parts (query-built scope tree labelled query).pattern in
+    omega (arith, a, b)
 
 pub pattern-triples : (scope : Scope) (tree : Syntax) (labelled : List Labelled) → IsQuery tree labelled → length (triple_patterns (pattern_of scope tree.group)) ≤ count_of is_object labelled
 pattern-triples scope tree labelled query =
     let is = group-numbered scope tree.group in
     let a = built-next scope start labelled in
-    let b = count_of-tally is_object labelled in
-    let c = query-next scope tree labelled query in
-    omega (arith, is.next, a, b, c)
+    let b = query-next scope tree labelled query in
+    omega (arith, is.next, a, b)

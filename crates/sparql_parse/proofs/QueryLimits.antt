@@ -5,14 +5,14 @@ use Rattle.query_tokens.specs.Token.{Lexeme}
 use Rattle.query_grammar.specs.declared.terminal.Terminal.{Terminal}
 use Rattle.query_grammar.specs.declared.terminal.Terminal.TheVariants as terminals
 use Rattle.query_grammar.specs.Terminals.{terminal_of}
-use Rattle.query_grammar.specs.Roles.{Labelled}
+use Rattle.query_grammar.specs.Roles.{Labelled, count_of}
 use Rattle.query_grammar.specs.Tree.{Syntax}
 use Rattle.query_grammar.specs.Grammar.{IsQuery}
 use Rattle.alg_model.specs.Pattern.{vars_of}
 use Rattle.alg_model.specs.Limits.{triple_patterns, PatternKeepsLimits}
 use Rattle.query_values.specs.Values.{name_of}
 use Rattle.sparql_parse.specs.Names.{is_text, with_name, names_behind, names_of}
-use Rattle.sparql_parse.specs.Faults.{count_of, is_object, is_optional}
+use Rattle.sparql_parse.specs.Faults.{is_object, is_optional}
 use Rattle.sparql_parse.specs.Meaning.{Scope, with_number, pattern_of}
 use Rattle.sparql_parse.proofs.LimitLaws.{AreNumbered-range, group-numbered, pattern-optionals, pattern-triples}
 use Rattle.sparql_parse.proofs.VarLaws.{AreBelow, AreBelow-All, AreBelow-append, AreFine, pattern-vars}

@@ -15,19 +15,20 @@ use Rattle.query_grammar.specs.declared.expect.State.{State}
 use Rattle.query_grammar.specs.declared.expect.Step.{Step}
 use Rattle.query_grammar.specs.Terminals.{terminal_of, terminal_of_text}
 use Rattle.query_grammar.specs.Words.{unsupported_word}
-use Rattle.query_grammar.specs.Roles.{Labelled, with_role, tokens_of}
+use Rattle.query_grammar.specs.Roles.{Labelled, with_role, tokens_of, open_groups}
 use Rattle.query_grammar.specs.Expecting.{start, step_at, next_step, Reading, read_tokens}
 use Rattle.query_grammar.proofs.Runs.{read-last, read-nothing}
+use Rattle.query_grammar.proofs.Depth.{groups-open_groups}
 use Rattle.sparql_parse.specs.declared.fault.QueryFault.{QueryFault}
 use Rattle.query_values.specs.Values.{IsSpelled}
-use Rattle.sparql_parse.specs.Faults.{open_groups, open_behind, fault_of}
+use Rattle.sparql_parse.specs.Faults.{fault_of}
 use Rattle.sparql_parse.specs.Naming.{Kept, kept_of, kept_behind, fault_behind, IsWithin}
 use Rattle.sparql_parse.specs.Names.{names_of}
 use Rattle.sparql_parse.specs.Denotes.{word_fault}
 use Rattle.sparql_parse.specs.Reading.{read_on, and_then, read_step, read_next, unless_fault}
 use Rattle.sparql_parse.specs.Readers.{IsKeptOf, IsSpelledOrBad}
 use Rattle.sparql_parse.proofs.NameLaws.{no_fault-within, no_fault-shallow}
-use Rattle.sparql_parse.proofs.NamingLaws.{kept-more, fault-kept, open-more, step-opens}
+use Rattle.sparql_parse.proofs.NamingLaws.{kept-more, fault-kept}
 
 -- a token of no terminal symbol is not read
 other-unread : (e : Expect) (n : ℕ) → step_at e n terminals.Other ≡ None
@@ -45,18 +46,22 @@ read-spelled s token step is (inr spelled) = spelled
 abbrev pub reading_at : List Labelled → State → Reading
 reading_at labelled state = record { labelled = labelled; state = state }
 
--- the fault of a token that the grammar reads, by what is kept
-opens : (ls : List Labelled) (s : State) (token : Lexeme) (step : Step) → s.groups ≡ open_groups ls → next_step s (terminal_of token) ≡ Some step →
-    step.state.groups ≡ open_groups (ls ++ with_role step.role token ∷ [])
-opens ls s token step opened is =
-    step-opens s (terminal_of token) step is ∙ ap (λ n. open_behind n step.role) opened ∙ sym (open-more ls (with_role step.role token))
+-- the run goes on with a token that the grammar reads
+run-more : (ls : List Labelled) (s : State) (token : Lexeme) (step : Step) → read_tokens start (tokens_of ls) ≡ Some (reading_at ls s) → next_step s (terminal_of token) ≡ Some step →
+    read_tokens start (tokens_of (ls ++ with_role step.role token ∷ [])) ≡ Some (reading_at (ls ++ with_role step.role token ∷ []) step.state)
+run-more ls s token step run is =
+    let tokens_are : tokens_of (ls ++ with_role step.role token ∷ []) ≡ tokens_of ls ++ token ∷ [] = map-append (λ (m : Labelled). m.token) ls (with_role step.role token ∷ []) in
+    ap (read_tokens start) tokens_are ∙ read-last (tokens_of ls) token start (reading_at ls s) step run is
 
+-- the fault of a token that the grammar reads, by what is kept
 pub fault-step : (ls : List Labelled) (s : State) (k : Kept) (token : Lexeme) (step : Step) → IsKeptOf ls s k → next_step s (terminal_of token) ≡ Some step →
     fault_of ls (with_role step.role token) ≡ fault_behind k step.state.groups (with_role step.role token)
 fault-step ls s k token step is_kept is =
     let l = with_role step.role token in
+    let run = run-more ls s token step is_kept.run is in
+    let depth : step.state.groups ≡ open_groups (ls ++ l ∷ []) = groups-open_groups (tokens_of (ls ++ l ∷ [])) (reading_at (ls ++ l ∷ []) step.state) run in
     fault-kept ls l
-    ∙ ap (λ n. fault_behind (kept_of ls) n l) (sym (opens ls s token step is_kept.opened is))
+    ∙ ap (λ n. fault_behind (kept_of ls) n l) (sym depth)
     ∙ ap (λ (kept : Kept). fault_behind kept step.state.groups l) (sym is_kept.same)
 
 pub kept-step : (ls : List Labelled) (s : State) (k : Kept) (token : Lexeme) (step : Step) → IsKeptOf ls s k → next_step s (terminal_of token) ≡ Some step →
@@ -64,11 +69,9 @@ pub kept-step : (ls : List Labelled) (s : State) (k : Kept) (token : Lexeme) (st
     IsKeptOf (ls ++ with_role step.role token ∷ []) step.state (kept_behind k (with_role step.role token))
 kept-step ls s k token step is_kept is none spelled =
     let l = with_role step.role token in
-    let tokens_are : tokens_of (ls ++ l ∷ []) ≡ tokens_of ls ++ token ∷ [] = map-append (λ (m : Labelled). m.token) ls (l ∷ []) in
     record {
-      run = ap (read_tokens start) tokens_are ∙ read-last (tokens_of ls) token start (reading_at ls s) step is_kept.run is;
+      run = run-more ls s token step is_kept.run is;
       same = ap (λ (kept : Kept). kept_behind kept l) is_kept.same ∙ sym (kept-more ls l);
-      opened = opens ls s token step is_kept.opened is;
       shallow = no_fault-shallow k step.state.groups l none;
       within = no_fault-within k step.state.groups l none;
       spelled = All-append (λ (m : Labelled). IsSpelled m.token) ls (l ∷ []) is_kept.spelled (All-cons (λ (m : Labelled). IsSpelled m.token) l [] spelled (All-nil (λ (m : Labelled). IsSpelled m.token)));
@@ -93,10 +96,6 @@ unfolding read_next
 next-fault r token step fault is some = ap (read_step r token) is ∙ ap (unless_fault (reading_behind r token step)) some
 
 -- before the first token
-open-none : open_groups [] ≡ 0
-unfolding open_groups
-open-none = refl
-
 names-none : names_of [] ≡ []
 unfolding names_of
 names-none = refl
@@ -105,7 +104,7 @@ within-none : IsWithin (kept_of []).names (kept_of []).tally
 within-none = rw names-none (record { names = omega arith; objects = omega arith; optionals = omega arith; groups = omega arith })
 
 pub kept-none : IsKeptOf [] start (kept_of [])
-kept-none = record { run = read-nothing start; same = refl; opened = sym open-none; shallow = omega arith; within = within-none; spelled = All-nil (λ (m : Labelled). IsSpelled m.token) }
+kept-none = record { run = read-nothing start; same = refl; shallow = omega arith; within = within-none; spelled = All-nil (λ (m : Labelled). IsSpelled m.token) }
 
 -- the first of some tokens is read, and then the others
 pub read_on-more : (r next : Reading) (token : Lexeme) (tokens : List Lexeme) → read_next r token ≡ Ok next → read_on r (token ∷ tokens) ≡ read_on next tokens

@@ -1,13 +1,13 @@
 -- The faults of a token that the grammar allows: a prefix without a declaration, and the limits of a query, which are
 -- this project's own. A fault is one of the token and of those before it.
-use Rattle.std.specs.Prelude.{ℕ, ◌+◌, ◌-◌, Bool, true, false, ◌&&◌, nat_lt, is_none, if◌then◌else◌, List, [], ◌∷◌, ◌++◌, length, fold, Option, Some, None}
+use Rattle.std.specs.Prelude.{ℕ, Bool, true, false, ◌&&◌, nat_lt, is_none, if◌then◌else◌, List, [], ◌∷◌, ◌++◌, length, Option, Some, None}
 use Rattle.query_tokens.specs.declared.token.TokenKind.{TokenKind}
 use Rattle.query_tokens.specs.declared.token.TokenKind.TheVariants as kinds
 use Rattle.sparql_parse.specs.declared.fault.QueryFault.{QueryFault}
 use Rattle.sparql_parse.specs.declared.fault.QueryFault.TheVariants as faults
 use Rattle.query_grammar.specs.declared.syntax.Role.{Role}
 use Rattle.query_grammar.specs.declared.syntax.Role.TheVariants as roles
-use Rattle.query_grammar.specs.Roles.{Labelled}
+use Rattle.query_grammar.specs.Roles.{Labelled, count_of, is_open, open_groups}
 use Rattle.query_values.specs.Values.{prefix_of}
 use Rattle.sparql_parse.specs.Names.{Namespace, names_of, namespaces_of, namespace_of}
 
@@ -18,32 +18,6 @@ is_object _ = false
 abbrev pub is_optional : Role → Bool
 is_optional roles.Optional = true
 is_optional _ = false
-
-abbrev pub is_open : Role → Bool
-is_open roles.Open = true
-is_open _ = false
-
-abbrev pub is_close : Role → Bool
-is_close roles.Close = true
-is_close _ = false
-
--- one more, where a token has such a role
-abbrev pub one_more : (Role → Bool) → ℕ → Role → ℕ
-one_more is_such n role = if is_such role then n + 1 else n
-
--- how many tokens have such a role
-abbrev pub count_of : (Role → Bool) → List Labelled → ℕ
-count_of is_such [] = 0
-count_of is_such (l ∷ ls) = one_more is_such (count_of is_such ls) l.role
-
--- how many groups are open behind some tokens
-abbrev pub open_behind : ℕ → Role → ℕ
-open_behind n roles.Open = n + 1
-open_behind n roles.Close = n - 1
-open_behind n _ = n
-
-unfoldable pub open_groups : List Labelled → ℕ
-open_groups labelled = fold (λ n l. open_behind n l.role) 0 labelled
 
 -- a prefix that is used as an IRI, or as the front of one, has to be declared before
 abbrev pub uses_prefix : TokenKind → Role → Bool

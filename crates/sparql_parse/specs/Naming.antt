@@ -1,5 +1,5 @@
 -- The second layer of names and limits: what is kept of a query behind its tokens, read one by one.
-use Rattle.std.specs.Prelude.{ℕ, ◌≤◌, Bool, false, not, List, length, Option}
+use Rattle.std.specs.Prelude.{ℕ, ◌+◌, ◌≤◌, Bool, false, not, if◌then◌else◌, List, length, Option}
 use Rattle.std.specs.List.{list_any}
 use Rattle.query_tokens.specs.Token.{Lexeme}
 use Rattle.query_grammar.specs.declared.terminal.Terminal.{Terminal}
@@ -9,9 +9,9 @@ use Rattle.sparql_parse.specs.declared.fault.QueryFault.{QueryFault}
 use Rattle.sparql_parse.specs.declared.tally.Tally.{Tally}
 use Rattle.query_grammar.specs.declared.syntax.Role.{Role}
 use Rattle.query_grammar.specs.Terminals.{terminal_of}
-use Rattle.query_grammar.specs.Roles.{Labelled}
+use Rattle.query_grammar.specs.Roles.{Labelled, count_of, is_open}
 use Rattle.sparql_parse.specs.Names.{Declarations, is_text, names_of, names_behind, declarations_of, declarations_behind}
-use Rattle.sparql_parse.specs.Faults.{is_object, is_optional, is_open, one_more, count_of, Counts, fault_among}
+use Rattle.sparql_parse.specs.Faults.{is_object, is_optional, Counts, fault_among}
 
 -- how many objects, OPTIONALs and groups there are
 abbrev pub tally_of : List Labelled → Tally
@@ -20,6 +20,10 @@ tally_of labelled = record {
   optionals = count_of is_optional labelled;
   groups = count_of is_open labelled;
 }
+
+-- one more, where a token has such a role
+abbrev pub one_more : (Role → Bool) → ℕ → Role → ℕ
+one_more is_such n role = if is_such role then n + 1 else n
 
 -- with one token more, in this role
 abbrev pub tally_behind : Tally → Role → Tally

@@ -7,7 +7,6 @@ use Rattle.query_grammar.specs.Expecting.{Reading, read_tokens, start}
 use Rattle.query_grammar.specs.declared.expect.State.{State}
 use Rattle.sparql_parse.specs.declared.query.Reader.{Reader}
 use Rattle.sparql_parse.specs.Builds.{labelled_in}
-use Rattle.sparql_parse.specs.Faults.{open_groups}
 use Rattle.sparql_parse.specs.Naming.{Kept, kept_of, IsWithin}
 use Rattle.query_values.specs.Values.{IsSpelled}
 
@@ -25,7 +24,6 @@ IsSpelledOrBad token = (token.kind ≡ kinds.Bad) ⊎ IsSpelled token
 pub record IsKeptOf (labelled : List Labelled) (state : State) (kept : Kept) : Type 0 where
   pub run : read_tokens start (tokens_of labelled) ≡ Some (record { labelled = labelled; state = state })
   pub same : kept ≡ kept_of labelled
-  pub opened : state.groups ≡ open_groups labelled
   pub shallow : state.groups ≤ 32
   pub within : IsWithin kept.names kept.tally
   pub spelled : All (λ l. IsSpelled l.token) labelled

@@ -2,14 +2,14 @@
 ghost use Rattle.std.specs.Prelude.{◌≡◌, ◌<◌, ◌^◌, ◌+◌, ◌≤◌, All, IfOk, OnOk, map, if◌then◌else◌};
 ghost use Rattle.query_tokens.specs.Token.{shown};
 ghost use Rattle.query_grammar.specs.Grammar.{IsQuery};
-ghost use Rattle.query_grammar.specs.Roles.{with_role};
+ghost use Rattle.query_grammar.specs.Roles.{count_of, with_role};
 ghost use Rattle.query_grammar.specs.Terminals.{terminal_of};
 ghost use Rattle.query_grammar.specs.Tree.{Syntax};
 ghost use Rattle.query_grammar.specs.declared.syntax.Role.TheVariants as roles;
 ghost use Rattle.alg_model.specs.Pattern.{algebra_of, vars_of};
 ghost use Rattle.sparql_parse.specs.Building.{built, columns_behind, in_role, next_settled, pattern_at, settled, start, step};
 ghost use Rattle.sparql_parse.specs.Builds.{IsSoundState, IsTranslation, labelled_in, state_in};
-ghost use Rattle.sparql_parse.specs.Faults.{count_of, is_object};
+ghost use Rattle.sparql_parse.specs.Faults.{is_object};
 ghost use Rattle.sparql_parse.specs.Meaning.{Scope, each_first};
 ghost use Rattle.sparql_parse.specs.Nodes.{IsSound, node_in};
 ghost use Rattle.sparql_parse.specs.Scopes.{scope_in};
