@@ -65,7 +65,7 @@ impl ByteClass for RawByte {
 
     #[tactic(auto, unfolding(crate::specs::Reading::is_raw_byte, crate::specs::Canonical::escape_letter))]
     fn has(self, b: u8) -> bool {
-        (b != b'"') & (b != b'\\') & (b != b'\n') & (b != b'\r') & (b != b'\t')
+        is_raw(b)
     }
 }
 
@@ -159,7 +159,7 @@ fn is_escape_letter(b: u8) -> bool
 fn is_raw(b: u8) -> bool
     ensures { result ≡ is_none (escape_letter b) }
 {
-    !matches!(b, b'"' | b'\\' | b'\n' | b'\r' | b'\t')
+    (b != b'"') & (b != b'\\') & (b != b'\n') & (b != b'\r') & (b != b'\t')
 }
 
 // The end of a text, which has these bytes.
