@@ -1,4 +1,3 @@
-pub mod IriTexts
 pub mod TextLemmas
 pub mod RepetitionLemmas
 pub mod Longest
@@ -13,6 +12,8 @@ pub mod Unescaping
 pub mod Inverse
 pub mod Taking
 pub mod Examples
-pub mod PlainIris
 pub mod ByteRuns
 pub mod LowerTags
+pub mod WalkLaws
+pub mod LiteralLaws
+pub mod WrittenTerms

@@ -1,8 +1,15 @@
 -- Lists of characters, which are scalar values.
-use Rattle.std.proofs.Common.{◌≡◌, ℕ, true, false, ◌&&◌, List, [], ◌∷◌, ◌++◌, refl, ◌∙◌, sym}
+use Rattle.std.proofs.Common.{◌≡◌, ℕ, true, false, ◌&&◌, arith, List, [], ◌∷◌, ◌++◌, refl, ◌∙◌, sym}
 use Rattle.std.proofs.lemmas.Bool.{and_parts}
+use Rattle.std.proofs.lemmas.Bool.Decides.{nat_tests}
 use Rattle.std.specs.Str.{all_scalars}
 use lib.Utf8.{scalar}
+use Rattle.bm_term.specs.Classes.{is_scalar}
+
+-- the test of the grammars is that of the library
+pub is_scalar-scalar : (c : ℕ) → is_scalar c ≡ scalar c
+unfolding is_scalar
+is_scalar-scalar c = grind (arith, nat_tests)
 
 pub all_scalars-append : (xs ys : List ℕ) → all_scalars (xs ++ ys) ≡ (all_scalars xs && all_scalars ys)
 all_scalars-append [] ys = refl

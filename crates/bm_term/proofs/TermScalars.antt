@@ -10,13 +10,8 @@ use Rattle.bm_term.specs.Classes.{is_scalar, is_irichar, is_pn_chars_base, is_pn
 use Rattle.bm_term.specs.Repetition.{Star}
 use Rattle.bm_term.specs.Names.{is_dotted, IsDottedName, IsSubtag, IsLanguageTag}
 use Rattle.bm_term.specs.Canonical.{RdfTerm, iri, blank, plain, tagged, typed, IsTerm, canonical_chars, escaped}
-use Rattle.bm_term.proofs.Scalars.{all_scalars-append}
+use Rattle.bm_term.proofs.Scalars.{is_scalar-scalar, all_scalars-append}
 use Rattle.bm_term.proofs.Spellings.{all_scalars-escaped}
-
--- the test of the grammars is that of the library
-is_scalar-scalar : (c : ℕ) → is_scalar c ≡ scalar c
-unfolding is_scalar
-is_scalar-scalar c = grind (arith, nat_tests)
 
 irichar_is_scalar : (c : ℕ) → is_irichar c ≡ true → scalar c ≡ true
 unfolding is_irichar

@@ -1,5 +1,5 @@
 -- The terms of RDF (RDF 1.1 Concepts, section 3), and the one text that each has here.
-use Rattle.std.specs.Prelude.{◌≡◌, ◌≢◌, ℕ, ◌==◌, if◌then◌else◌, IsTrue, Option, Some, None, codes, List, [], ◌∷◌, ◌++◌}
+use Rattle.std.specs.Prelude.{◌≡◌, ◌≢◌, ℕ, ◌==◌, if◌then◌else◌, IsTrue, Option, Some, None, bytes_eq, codes, List, [], ◌∷◌, ◌++◌}
 use Rattle.std.specs.List.{list_all, flat_map}
 use Rattle.std.specs.Str.{all_scalars, encode_utf8_all}
 use Rattle.bm_term.specs.declared.term_parts.TermKind.{TermKind}
@@ -19,6 +19,10 @@ pub data RdfTerm : Type 0 where
 
 unfoldable pub xsd_string : List ℕ
 xsd_string = codes "http://www.w3.org/2001/XMLSchema#string"
+
+-- a literal with the IRI of a datatype; one of xsd:string is the plain one
+unfoldable pub literal_of : List ℕ → List ℕ → RdfTerm
+literal_of lexical datatype = if bytes_eq datatype xsd_string then plain lexical else typed lexical datatype
 
 -- BLANK_NODE_LABEL without its '_:'
 abbrev pub IsLabel : List ℕ → Type 0

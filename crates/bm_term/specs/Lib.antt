@@ -2,7 +2,6 @@ pub mod Canonical
 pub mod Classes
 pub mod Escapes
 pub mod Graph
-pub mod Iri
 pub mod Kept
 pub mod Marks
 pub mod Names

@@ -1,12 +1,12 @@
 -- How the parts of a text are read from its front. The laws that tie this to canonical texts are in proofs/.
-use Rattle.std.specs.Prelude.{ℕ, Bool, ◌||◌, ◌==◌, nat_le, if◌then◌else◌, is_none, Option, Some, None, option_and_then, bytes_eq, List, [], ◌∷◌, length}
+use Rattle.std.specs.Prelude.{ℕ, Bool, ◌&&◌, ◌||◌, ◌==◌, nat_le, if◌then◌else◌, is_none, Option, Some, None, option_and_then, bytes_eq, List, [], ◌∷◌, length}
 use Rattle.std.specs.Option.{option_map}
 use Rattle.std.specs.Str.{chars}
 use Rattle.bm_term.specs.declared.term_parts.TermKind.{TermKind}
 use Rattle.bm_term.specs.declared.term_parts.TermKind.TheVariants.{Iri, Blank, Plain, Tagged, Typed}
 use Rattle.bm_term.specs.declared.term_parts.Parts.{Parts}
 use Rattle.bm_term.specs.Marks.{quotation_mark, colon, less_than, greater_than, at_sign, backslash, circumflex, low_line, letter_n, letter_r, letter_t}
-use Rattle.bm_term.specs.Classes.{is_lower_letter, is_lower_alphanumeric, is_nt_label_first, is_nt_pn_chars, is_irichar}
+use Rattle.bm_term.specs.Classes.{is_scalar, is_lower_letter, is_lower_alphanumeric, is_nt_label_first, is_nt_pn_chars, is_irichar}
 use Rattle.bm_term.specs.Text.{after_char, after_run, before}
 use Rattle.bm_term.specs.Repetition.{after_pieces}
 use Rattle.bm_term.specs.Names.{after_dotted_name, after_language_tag}
@@ -38,6 +38,13 @@ after_spelling (c ∷ cs) =
 -- a byte of IRICHARs: a member of the class, or a byte of a character beyond ASCII, which all are members
 unfoldable pub is_iri_byte : ℕ → Bool
 is_iri_byte b = nat_le 128 b || is_irichar b
+
+-- a character that stands for itself in a canonical literal, and a byte of such characters
+unfoldable pub is_raw_char : ℕ → Bool
+is_raw_char c = is_scalar c && is_none (escape_letter c)
+
+unfoldable pub is_raw_byte : ℕ → Bool
+is_raw_byte b = nat_le 128 b || is_none (escape_letter b)
 
 -- an IRI up to its closing bracket, and what follows that
 unfoldable pub split_iri : List ℕ → Option (List ℕ × List ℕ)

@@ -7,6 +7,11 @@ abbrev pub uncons : List ℕ → Option (ℕ × List ℕ)
 uncons [] = None
 uncons (c ∷ cs) = Some (c, cs)
 
+-- what follows the first character
+abbrev pub behind_first : List ℕ → List ℕ
+behind_first [] = []
+behind_first (c ∷ cs) = cs
+
 -- what follows this character, where the text begins with it
 abbrev pub after_char : ℕ → List ℕ → Option (List ℕ)
 after_char d [] = None

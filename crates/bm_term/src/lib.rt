@@ -8,7 +8,6 @@
 mod class_types;
 mod classes;
 mod escape;
-mod iri;
 mod laws;
 mod names;
 mod reading;
@@ -19,6 +18,7 @@ mod term_parts;
 mod term_ref;
 mod text;
 mod triple;
+mod writing;
 
 pub use class_types::{
     Alphanumeric, Letter, LowerAlphanumeric, LowerLetter, NtLabelFirst, NtPnChars, PnCharsBase,
@@ -30,20 +30,20 @@ pub use classes::{
     is_scalar, is_sparql_label_first, is_sparql_pn_chars, is_sparql_pn_chars_u,
 };
 pub use escape::{echar_value, escape_letter, push_spelling, unescape};
-pub use iri::{GREATER_THAN, LESS_THAN, is_iri, is_iri_char};
 pub use laws::{
     all_is_kept_without_a_limit, each_term_has_its_own_text, lists_are_taken_in_a_row,
     parts_are_the_term,
 };
 pub use names::{after_dotted_name, after_language_tag};
-pub use reading::parts;
-pub use runs::after_irichars;
+pub use reading::{is_xsd_string, parts};
+pub use runs::{after_irichars, after_raw_chars};
 pub use taker::{Taker, TripleList};
 pub use term::Term;
 pub use term_parts::{Parts, TermKind};
 pub use term_ref::TermRef;
 pub use text::{CharClass, after_char, after_run, after_some, before, is_at_end, split_char};
 pub use triple::Triple;
+pub use writing::push_lower;
 
 #[cfg(test)]
 mod tests;

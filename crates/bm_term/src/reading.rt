@@ -109,7 +109,8 @@ fn read_typed<'a>(lexical: &'a str, text: &'a str) -> Option<Parts<'a>>
     parts_at_end(rest, TermKind::Typed, lexical, iri)
 }
 
-fn is_xsd_string(iri: &str) -> bool
+/// Whether the characters are those of the IRI of xsd:string.
+pub fn is_xsd_string(iri: &str) -> bool
     ensures { result ≡ bytes_eq (chars iri.now) xsd_string }
 {
     iri == XSD_STRING

@@ -1,29 +1,92 @@
 // Runs of characters that are walked byte by byte: each character beyond ASCII belongs to them.
-ghost use Rattle.std.specs.Prelude.{◌≡◌, is_none};
+ghost use Rattle.std.specs.Prelude.{◌≡◌, ℕ, Bool, is_none};
+ghost use Rattle.std.specs.List.{list_all};
 ghost use Rattle.std.specs.Option.{option_map};
 ghost use Rattle.std.specs.Str.{chars, IsUtf8};
 ghost use Rattle.bm_term.specs.Classes.{is_irichar};
 ghost use Rattle.bm_term.specs.Canonical.{escape_letter};
 ghost use Rattle.bm_term.specs.Text.{HasRest, after_run};
 ghost use Rattle.bm_term.specs.Repetition.{after_pieces};
-ghost use Rattle.bm_term.specs.Reading.{is_iri_byte, is_escape_letter, after_escape, after_spelling};
-
-use crate::classes::is_irichar;
+ghost use Rattle.bm_term.specs.Reading.{is_iri_byte, is_raw_char, is_raw_byte, is_escape_letter, after_escape, after_spelling};
 
 /// The text after the longest run of `IRICHAR` that it begins with.
 pub fn after_irichars(text: &str) -> &str
     ensures { chars result.now ≡ after_run is_irichar (chars text.now) }
 {
-    end_of(text, after_iri_bytes(text.as_bytes()))
+    end_of(text, after_byte_run(text.as_bytes(), IriByte))
 }
 
-#[tactic(auto, unfolding(crate::specs::Text::after_run))]
-fn after_iri_bytes(bytes: &[u8]) -> &[u8]
-    ensures { result.now ≡ after_run is_iri_byte bytes.now }
+/// The text after the longest run of characters that stand for themselves in a canonical literal.
+pub fn after_raw_chars(text: &str) -> &str
+    ensures { chars result.now ≡ after_run is_raw_char (chars text.now) }
+{
+    end_of(text, after_byte_run(text.as_bytes(), RawByte))
+}
+
+// How many bytes are tested at once.
+const BLOCK: usize = 16;
+
+// A class of bytes, whose test takes no branch.
+trait ByteClass: Copy {
+    ghost members: { ℕ → Bool };
+
+    fn has(self, b: u8) -> bool
+        ensures { result ≡ members b };
+}
+
+// The bytes of IRICHARs: each byte of a character beyond ASCII, which all are members.
+#[derive(Clone, Copy)]
+struct IriByte;
+
+impl ByteClass for IriByte {
+    ghost members = { is_iri_byte };
+
+    #[tactic(auto, unfolding(crate::specs::Reading::is_iri_byte, crate::specs::Classes::is_irichar, crate::specs::Classes::is_scalar))]
+    fn has(self, b: u8) -> bool {
+        (b > 0x20)
+            & (b != b'"')
+            & (b != b'<')
+            & (b != b'>')
+            & (b != b'\\')
+            & (b != b'^')
+            & (b != b'`')
+            & (b != b'{')
+            & (b != b'|')
+            & (b != b'}')
+    }
+}
+
+// The bytes of characters that stand for themselves in a canonical literal.
+#[derive(Clone, Copy)]
+struct RawByte;
+
+impl ByteClass for RawByte {
+    ghost members = { is_raw_byte };
+
+    #[tactic(auto, unfolding(crate::specs::Reading::is_raw_byte, crate::specs::Canonical::escape_letter))]
+    fn has(self, b: u8) -> bool {
+        is_raw(b)
+    }
+}
+
+// Whether all bytes are members. Each is tested, so that the test is made for many at once.
+fn are_members<C: ByteClass>(block: &[u8], class: C) -> bool
+    ensures { result ≡ list_all C.members block.now }
+{
+    let mut all = true;
+    for b in block {
+        all &= class.has(*b);
+    }
+    all
+}
+
+// What is left behind blocks of members.
+fn after_blocks<C: ByteClass>(bytes: &[u8], class: C) -> &[u8]
+    ensures { after_run C.members result.now ≡ after_run C.members bytes.now }
 {
     let mut rest = bytes;
-    while let [b, after @ ..] = rest {
-        if !is_iri_byte(*b) {
+    while let Some((block, after)) = rest.split_at_checked(BLOCK) {
+        if !are_members(block, class) {
             break;
         }
         rest = after;
@@ -31,11 +94,18 @@ fn after_iri_bytes(bytes: &[u8]) -> &[u8]
     rest
 }
 
-#[tactic(auto, unfolding(crate::specs::Reading::is_iri_byte))]
-fn is_iri_byte(b: u8) -> bool
-    ensures { result ≡ is_iri_byte b }
+#[tactic(auto, unfolding(crate::specs::Text::after_run))]
+fn after_byte_run<C: ByteClass>(bytes: &[u8], class: C) -> &[u8]
+    ensures { result.now ≡ after_run C.members bytes.now }
 {
-    b >= 128 || is_irichar(u32::from(b))
+    let mut rest = after_blocks(bytes, class);
+    while let [b, after @ ..] = rest {
+        if !class.has(*b) {
+            break;
+        }
+        rest = after;
+    }
+    rest
 }
 
 /// The text after the longest run of characters as they are spelled in a canonical literal.
@@ -89,7 +159,7 @@ fn is_escape_letter(b: u8) -> bool
 fn is_raw(b: u8) -> bool
     ensures { result ≡ is_none (escape_letter b) }
 {
-    !matches!(b, b'"' | b'\\' | b'\n' | b'\r' | b'\t')
+    (b != b'"') & (b != b'\\') & (b != b'\n') & (b != b'\r') & (b != b'\t')
 }
 
 // The end of a text, which has these bytes.

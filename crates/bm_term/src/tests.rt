@@ -312,6 +312,31 @@ fn lexical_forms_there_and_back(rt: HostRuntime) -> Result<(), Fail> {
     Ok(())
 }
 
+// A run ends at the first character that is none of it, in a block of bytes, at its end and behind it.
+#[test]
+fn runs_end_where_they_do(rt: HostRuntime) {
+    for (text, after_iri, after_raw) in [
+        ("", "", ""),
+        ("é \"", " \"", "\""),
+        ("0123456789abcde>\\g", ">\\g", "\\g"),
+        ("0123456789abcdef>\n", ">\n", "\n"),
+        ("0123456789文字\u{7f}\u{10ffff}|\t", "|\t", "\t"),
+    ] {
+        assert!(rt; after_irichars(text) == after_iri);
+        assert!(rt; after_raw_chars(text) == after_raw);
+    }
+}
+
+#[test]
+fn letters_of_ascii_are_put_in_lower_case(rt: HostRuntime) -> Result<(), Fail> {
+    let mut out = String::from_str(rt.alloc(), "X")?;
+    push_lower(&mut out, "en-GB É[Z")?;
+    assert_eq!(rt; out.as_str(), "Xen-gb É[z");
+    assert!(rt; is_xsd_string("http://www.w3.org/2001/XMLSchema#string"));
+    assert!(rt; !is_xsd_string("http://www.w3.org/2001/XMLSchema#String"));
+    Ok(())
+}
+
 // A name and a tag end where the longest does.
 #[test]
 #[tactic(auto, using(crate::proofs::LanguageTags::hyphens))]

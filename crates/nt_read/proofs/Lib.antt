@@ -1,4 +1,3 @@
-pub mod ByteWalks
 pub mod Cuts
 pub mod Examples
 pub mod FirstBad

@@ -1,45 +1,28 @@
 -- What is written of a literal part by part is its canonical text.
-use Rattle.std.proofs.Common.{◌≡◌, ◌≢◌, ℕ, true, false, List, [], ◌∷◌, ◌++◌, refl, ap, ◌∙◌, sym, arith, append_assoc}
-use Rattle.std.specs.Prelude.{codes, bytes_eq, encode_utf8}
+use Rattle.std.proofs.Common.{◌≡◌, ◌≢◌, ℕ, true, false, List, [], ◌∷◌, ◌++◌, refl, ap, ◌∙◌, sym}
+use Rattle.std.specs.Prelude.{codes, bytes_eq}
 use Rattle.std.specs.List.{list_all}
-use Rattle.std.specs.Str.{chars, encode_utf8_all}
+use Rattle.std.specs.Str.{chars}
 use Rattle.std.proofs.lemmas.Slice.Eq.{bytes_eq-Decides}
-use Rattle.std.proofs.lemmas.Str.{encodes-append, encodes-IsAscii, encode_ascii}
-use Rattle.bm_term.specs.Canonical.{iri, plain, tagged, typed, IsTerm, escaped, canonical_text, xsd_string}
+use Rattle.std.proofs.lemmas.Str.{encodes-IsAscii}
+use Rattle.bm_term.specs.Canonical.{iri, plain, typed, literal_of, IsTerm, canonical_text, xsd_string}
 use Rattle.bm_term.specs.Classes.{is_scalar, is_irichar}
-use Rattle.bm_term.specs.Marks.{quotation_mark, at_sign, circumflex}
+use Rattle.bm_term.specs.Marks.{circumflex}
+use Rattle.bm_term.specs.Text.{behind_first}
 use Rattle.bm_term.proofs.Inverse.{canonical_text-injective}
+use Rattle.bm_term.proofs.LiteralLaws.{literal_of-xsd_string, literal_of-other}
 use Rattle.bm_term.proofs.TextLemmas.{IsAscii-list_all}
+use Rattle.bm_term.proofs.WrittenTerms.{typed_bytes}
 use Rattle.nt_read.specs.declared.found.Quoted.{Quoted}
 use Rattle.nt_read.specs.declared.found.Quoted.TheVariants.{Raw, Escaped}
-use Rattle.nt_read.specs.Found.{iri_of, behind_first}
-use Rattle.nt_read.specs.LineReading.{literal_of}
+use Rattle.nt_read.specs.Found.{iri_of}
 use Rattle.rdf_escapes.proofs.Members.{iri_values-irichars}
-use Rattle.rdf_escapes.proofs.SpellingLaws.{enclosed}
-use Rattle.nt_read.proofs.PlaceLaws.{literal_of-xsd_string, literal_of-other}
 
--- the text of a literal is that of its lexical form alone, and what follows
-text_and_tail : (lexical tail : List ℕ) → encode_utf8_all (quotation_mark ∷ (escaped lexical ++ quotation_mark ∷ tail)) ≡ canonical_text (plain lexical) ++ encode_utf8_all tail
-text_and_tail lexical tail =
-    ap encode_utf8_all (sym (enclosed quotation_mark quotation_mark (escaped lexical) tail))
-    ∙ encodes-append (quotation_mark ∷ (escaped lexical ++ quotation_mark ∷ [])) tail
-
-pub tagged_bytes : (first second third lexical tag : List ℕ) → first ≡ canonical_text (plain lexical) → second ≡ first ++ encode_utf8 at_sign → third ≡ second ++ encode_utf8_all tag → third ≡ canonical_text (tagged lexical tag)
-tagged_bytes first second third lexical tag string mark name =
-    name ∙ ap (λ xs. xs ++ encode_utf8_all tag) (mark ∙ ap (λ xs. xs ++ encode_utf8 at_sign) string)
-    ∙ append_assoc (canonical_text (plain lexical)) (encode_utf8 at_sign) (encode_utf8_all tag)
-    ∙ sym (text_and_tail lexical (at_sign ∷ tag))
-
-circumflexes : (bytes : List ℕ) → encode_utf8 circumflex ++ (encode_utf8 circumflex ++ bytes) ≡ circumflex ∷ circumflex ∷ bytes
-circumflexes bytes = rw (encode_ascii circumflex (omega arith)) refl
-
-pub typed_bytes : (first second third datatype lexical cs : List ℕ) → first ≡ canonical_text (plain lexical) → second ≡ first ++ (circumflex ∷ circumflex ∷ []) → third ≡ second ++ datatype → datatype ≡ canonical_text (iri cs) → third ≡ canonical_text (typed lexical cs)
-typed_bytes first second third datatype lexical cs string mark name same =
-    name ∙ ap (λ xs. xs ++ datatype) (mark ∙ ap (λ xs. xs ++ (circumflex ∷ circumflex ∷ [])) string)
-    ∙ append_assoc (canonical_text (plain lexical)) (circumflex ∷ circumflex ∷ []) datatype
-    ∙ ap (λ xs. canonical_text (plain lexical) ++ (circumflex ∷ circumflex ∷ xs)) same
-    ∙ ap (λ xs. canonical_text (plain lexical) ++ xs) (sym (circumflexes (canonical_text (iri cs))))
-    ∙ sym (text_and_tail lexical (circumflex ∷ circumflex ∷ 60 ∷ (cs ++ 62 ∷ [])))
+-- the text of a literal with a datatype, written part by part
+pub datatype_bytes : (first second third datatype lexical cs : List ℕ) → first ≡ canonical_text (plain lexical) → second ≡ first ++ (circumflex ∷ circumflex ∷ []) → third ≡ second ++ datatype → datatype ≡ canonical_text (iri cs) → third ≡ canonical_text (typed lexical cs)
+datatype_bytes first second third datatype lexical cs string mark name same =
+    typed_bytes lexical cs first third string
+    (name ∙ ap (λ xs. xs ++ datatype) mark ∙ ap (λ xs. first ++ (circumflex ∷ circumflex ∷ []) ++ xs) same)
 
 -- xsd:string
 abbrev pub xsd_string_text : List ℕ

@@ -1,13 +1,14 @@
 -- The subject, the predicate, the object and the end of a line: what is read is spelled, and what is spelled is read.
-use Rattle.std.proofs.Common.{◌≡◌, ◌≢◌, ℕ, true, false, ◌==◌, ◌⊎◌, inl, inr, if◌then◌else◌, Option, Some, None, List, [], ◌∷◌, ◌++◌, refl, ap, subst, ◌∙◌, sym}
+use Rattle.std.proofs.Common.{◌≡◌, ℕ, true, false, ◌==◌, ◌⊎◌, inl, inr, if◌then◌else◌, Option, Some, None, List, [], ◌∷◌, ◌++◌, refl, ap, subst, ◌∙◌, sym}
 use Rattle.std.specs.Prelude.{bytes_eq}
 use Rattle.std.specs.Option.{option_map, option_or}
 use Rattle.std.proofs.lemmas.Bool.{eqb-true}
 use Rattle.std.proofs.lemmas.Option.{option_and_then_some, some_pair_parts}
 use Rattle.std.proofs.lemmas.Slice.Eq.{bytes_eq-Decides}
 use Rattle.bm_term.specs.Marks.{quotation_mark, full_stop, at_sign, circumflex, low_line, colon, less_than, number_sign}
-use Rattle.bm_term.specs.Canonical.{RdfTerm, iri, blank, plain, tagged, typed, xsd_string}
+use Rattle.bm_term.specs.Canonical.{RdfTerm, iri, blank, plain, tagged, typed, literal_of, xsd_string}
 use Rattle.bm_term.specs.Text.{after_char}
+use Rattle.bm_term.proofs.LiteralLaws.{literal_of-xsd_string, literal_of-other}
 use Rattle.bm_term.proofs.TextLemmas.{after_run-split, after_run-append, after_run-stop, after_run-nil}
 use Rattle.rdf_escapes.specs.Iris.{IsIriRef}
 use Rattle.rdf_escapes.specs.Reading.{read_iri_ref, read_string}
@@ -15,7 +16,7 @@ use Rattle.rdf_escapes.specs.Strings.{IsString}
 use Rattle.nt_read.specs.Terminals.{IsBlankNodeLabel, IsLangtag, IsMark, Terminal, is_blank}
 use Rattle.nt_read.specs.Line.{IsSubject, IsPredicate, IsObject, IsTagged, IsTyped, IsCommentOrNothing, IsEnd}
 use Rattle.nt_read.specs.TerminalReading.{read_langtag, read_label}
-use Rattle.nt_read.specs.LineReading.{after_blanks, read_iri, read_blank, read_node, read_subject, read_predicate, literal_of, read_tag, read_datatype, read_tail, read_literal, read_object, is_comment_or_nothing, is_end}
+use Rattle.nt_read.specs.LineReading.{after_blanks, read_iri, read_blank, read_node, read_subject, read_predicate, read_tag, read_datatype, read_tail, read_literal, read_object, is_comment_or_nothing, is_end}
 use Rattle.nt_read.proofs.TerminalLaws.{terminal_found, terminal_read}
 use Rattle.nt_read.proofs.TerminalRules.{iri_ref-reads, string-reads, langtag-reads, label-reads, read_dot, dot-reads, read_datatype_mark, datatype_mark-reads}
 
@@ -139,18 +140,6 @@ literal_of-object text lexical datatype rest is =
     elim (bytes_eq datatype xsd_string) as (λ b. bytes_eq datatype xsd_string ≡ b → IsObject text (if b then plain lexical else typed lexical datatype) rest) [
       | true ↦ λ e. inr (subst (λ d. IsTyped text lexical d rest) ((bytes_eq-Decides datatype xsd_string).0 e) is)
       | false ↦ λ e. (is, λ same. let equal = (bytes_eq-Decides datatype xsd_string).1 same in absurd (cc))
-    ] refl
-
-pub literal_of-xsd_string : (lexical : List ℕ) → literal_of lexical xsd_string ≡ plain lexical
-unfolding literal_of
-literal_of-xsd_string lexical = rw ((bytes_eq-Decides xsd_string xsd_string).1 refl) refl
-
-pub literal_of-other : (lexical datatype : List ℕ) → datatype ≢ xsd_string → literal_of lexical datatype ≡ typed lexical datatype
-unfolding literal_of
-literal_of-other lexical datatype other =
-    elim (bytes_eq datatype xsd_string) as (λ b. bytes_eq datatype xsd_string ≡ b → (if b then plain lexical else typed lexical datatype) ≡ typed lexical datatype) [
-      | true ↦ λ e. absurd (other ((bytes_eq-Decides datatype xsd_string).0 e))
-      | false ↦ λ e. refl
     ] refl
 
 tag_found : (text end rest lexical start : List ℕ) (term : RdfTerm) → Terminal (IsString quotation_mark) text lexical end → after_blanks end ≡ start → read_tag lexical start ≡ Some (term, rest) → IsObject text term rest

@@ -8,9 +8,9 @@ use Rattle.bm_term.specs.Classes.{is_scalar, is_irichar, is_nt_label_first, is_n
 use Rattle.bm_term.specs.Marks.{less_than, greater_than, quotation_mark, low_line, colon}
 use Rattle.bm_term.specs.Names.{after_dotted_name}
 use Rattle.bm_term.specs.Repetition.{Star}
-use Rattle.bm_term.specs.Text.{after_char, after_run, before, HasRest}
+use Rattle.bm_term.specs.Reading.{is_raw_char}
+use Rattle.bm_term.specs.Text.{behind_first, after_char, after_run, before, HasRest}
 use Rattle.bm_term.proofs.TextLemmas.{after_char-some, after_run-split, before-append}
-use Rattle.nt_read.specs.Found.{is_raw_char, behind_first}
 use Rattle.rdf_escapes.specs.Iris.{IsIriPiece}
 use Rattle.rdf_escapes.specs.Pieces.{values}
 use Rattle.rdf_escapes.specs.Reading.{iri_piece, string_piece, read_iri_ref, read_string}

@@ -1,10 +1,10 @@
 -- The terms that stand for what is found in a line.
-use Rattle.std.specs.Prelude.{◌≡◌, ℕ, Bool, ◌&&◌, ◌||◌, nat_le, is_none, List, [], ◌∷◌, map, length}
+use Rattle.std.specs.Prelude.{◌≡◌, ℕ, List, map, length}
 use Rattle.std.specs.Char.{to_ascii_lowercase}
 use Rattle.std.specs.Str.{chars, IsUtf8}
-use Rattle.bm_term.specs.Classes.{is_scalar}
 use Rattle.bm_term.specs.Marks.{quotation_mark}
-use Rattle.bm_term.specs.Canonical.{RdfTerm, iri, blank, plain, tagged, IsTerm, escape_letter, canonical_chars}
+use Rattle.bm_term.specs.Canonical.{RdfTerm, iri, blank, plain, tagged, literal_of, IsTerm, canonical_chars}
+use Rattle.bm_term.specs.Text.{behind_first}
 use Rattle.bm_term.specs.declared.triple.Triple.{Triple}
 use Rattle.nt_read.specs.declared.found.Quoted.{Quoted}
 use Rattle.nt_read.specs.declared.found.Quoted.TheVariants.{Raw, Escaped}
@@ -16,19 +16,6 @@ use Rattle.nt_read.specs.declared.found.FoundTriple.{FoundTriple}
 use Rattle.rdf_escapes.specs.Pieces.{values}
 use Rattle.rdf_escapes.specs.Reading.{iri_piece, string_piece}
 use Rattle.nt_read.specs.Line.{triple_of}
-use Rattle.nt_read.specs.LineReading.{literal_of}
-
--- a character that stands for itself in a canonical literal, and a byte of such characters
-unfoldable pub is_raw_char : ℕ → Bool
-is_raw_char c = is_scalar c && is_none (escape_letter c)
-
-unfoldable pub is_raw_byte : ℕ → Bool
-is_raw_byte b = nat_le 128 b || is_none (escape_letter b)
-
--- what follows the first character
-abbrev pub behind_first : List ℕ → List ℕ
-behind_first [] = []
-behind_first (c ∷ cs) = cs
 
 -- the characters of an IRI, and those of a lexical form
 unfoldable pub iri_of : Quoted → List ℕ

@@ -1,10 +1,10 @@
 -- How a line is read from its front. The laws that tie this to the grammar are in proofs/.
-use Rattle.std.specs.Prelude.{◌≡◌, ℕ, Bool, true, ◌==◌, if◌then◌else◌, Option, Some, None, Result, Ok, Err, bytes_eq, List, [], ◌∷◌}
+use Rattle.std.specs.Prelude.{◌≡◌, ℕ, Bool, true, ◌==◌, if◌then◌else◌, Option, Some, None, Result, Ok, Err, List, [], ◌∷◌}
 use Rattle.std.specs.Option.{option_map, option_or}
 use Rattle.std.specs.Str.{chars, is_utf8}
 use Rattle.bm_term.specs.declared.triple.Triple.{Triple}
 use Rattle.bm_term.specs.Marks.{quotation_mark, full_stop, at_sign, circumflex, number_sign}
-use Rattle.bm_term.specs.Canonical.{RdfTerm, iri, blank, plain, tagged, typed, xsd_string}
+use Rattle.bm_term.specs.Canonical.{RdfTerm, iri, blank, plain, tagged, literal_of}
 use Rattle.bm_term.specs.Text.{after_char, after_run}
 use Rattle.nt_read.specs.declared.line.LineFault.{LineFault}
 use Rattle.nt_read.specs.declared.line.LineFault.TheVariants.{Bad, Memory}
@@ -42,10 +42,6 @@ read_subject text = read_node (after_blanks text)
 
 unfoldable pub read_predicate : ReadTerm
 read_predicate text = read_iri (after_blanks text)
-
--- a literal with this datatype
-unfoldable pub literal_of : List ℕ → List ℕ → RdfTerm
-literal_of lexical datatype = if bytes_eq datatype xsd_string then plain lexical else typed lexical datatype
 
 -- behind the lexical form of a literal: LANGTAG
 unfoldable pub read_tag : List ℕ → ReadTerm

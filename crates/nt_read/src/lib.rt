@@ -10,7 +10,6 @@ mod line;
 mod lines;
 mod places;
 mod reader;
-mod runs;
 mod statement;
 mod terminals;
 mod writing;

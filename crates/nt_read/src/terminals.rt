@@ -9,10 +9,9 @@ ghost use Rattle.nt_read.specs.Found.{iri_of, lexical_of, label_of, tag_of, IsIr
 ghost use Rattle.nt_read.specs.TerminalReading.{read_langtag, read_label};
 
 use crate::found::Quoted;
-use crate::runs::{after_irichars, after_raw_chars};
 use bm_term::{
-    Alphanumeric, Letter, NtLabelFirst, NtPnChars, after_char, after_dotted_name,
-    after_language_tag, before,
+    Alphanumeric, Letter, NtLabelFirst, NtPnChars, after_char, after_dotted_name, after_irichars,
+    after_language_tag, after_raw_chars, before,
 };
 use rdf_escapes::{after_iri_pieces, after_string_pieces};
 

@@ -1,29 +1,14 @@
 // The canonical texts of the terms of a line.
-ghost use Rattle.std.specs.Prelude.{◌≡◌, ℕ, List, ◌++◌, map, IfOk, OnOk, string_bytes};
-ghost use Rattle.std.specs.Char.{to_ascii_lowercase};
-ghost use Rattle.std.specs.Str.{chars, encode_utf8_all};
-ghost use Rattle.bm_term.specs.Canonical.{iri, plain, tagged, IsTerm, canonical_text};
+ghost use Rattle.std.specs.Prelude.{◌≡◌, ℕ, List, ◌++◌, IfOk, OnOk, string_bytes};
+ghost use Rattle.bm_term.specs.Canonical.{iri, plain, tagged, literal_of, IsTerm, canonical_text};
 ghost use Rattle.nt_read.specs.Found.{iri_of, lexical_of, tag_of, raw_length, IsIriText, IsStringText, IsTailText, IsFoundText, AreFoundTexts, AreTerms, literal_with, term_found, triple_found};
-ghost use Rattle.nt_read.specs.LineReading.{literal_of};
 
 use crate::found::{FoundTerm, FoundTriple, LiteralTail, Quoted};
-use bm_term::{Term, Triple, split_char};
+use bm_term::{Term, Triple, push_lower};
 use rdf_escapes::{push_iri_pieces, push_string_pieces};
 use std::alloc::{AllocError, Global};
 
 const XSD_STRING: &str = "<http://www.w3.org/2001/XMLSchema#string>";
-
-// Writes a language tag in lower case.
-fn push_lower(out: &mut String, tag: &str) -> Result<(), AllocError>
-    ensures { OnOk result (string_bytes out.new ≡ string_bytes out.old ++ encode_utf8_all (map to_ascii_lowercase (chars tag.now))) }
-{
-    let mut rest = tag;
-    while let Some((c, after)) = split_char(rest) {
-        out.push(c.to_ascii_lowercase())?;
-        rest = after;
-    }
-    Ok(())
-}
 
 // Writes an IRI with its brackets.
 fn push_iri(out: &mut String, quoted: Quoted<'_>) -> Result<(), AllocError>

@@ -4,4 +4,3 @@ pub mod SpelledValues
 pub mod TermLaws
 pub mod TokenLaws
 pub mod ValueExamples
-pub mod WalkLaws

@@ -7,9 +7,9 @@ use Rattle.std.specs.Prelude.{encode_utf8}
 use Rattle.std.specs.Char.{to_ascii_lowercase}
 use Rattle.std.specs.List.{concat}
 use Rattle.std.specs.Str.{chars, encode_utf8_all, IsUtf8}
-use Rattle.bm_term.specs.Canonical.{IsTerm, plain, typed, xsd_string}
+use Rattle.bm_term.specs.Canonical.{literal_of, IsTerm, plain, typed, xsd_string}
 use Rattle.bm_term.specs.Marks.{at_sign, colon, less_than, greater_than}
-use Rattle.bm_term.specs.Text.{after_char}
+use Rattle.bm_term.specs.Text.{behind_first, after_char}
 use Rattle.bm_term.proofs.TextLemmas.{after_char-some}
 use Rattle.rdf_escapes.specs.Iris.{IsIriRef}
 use Rattle.rdf_escapes.specs.Strings.{is_quote, IsString}
@@ -21,7 +21,7 @@ use Rattle.query_tokens.specs.PrefixedNames.{IsPrefixName, IsPrefixed, SpellsLoc
 use Rattle.query_tokens.specs.Token.{IsToken, Lexeme}
 use Rattle.query_tokens.specs.Variables.{is_variable_mark}
 use Rattle.query_tokens.specs.declared.token.TokenKind.TheVariants.{Prefixed}
-use Rattle.query_values.specs.Values.{IsSpelled, behind_first, between_marks, AreIriChars, iri_of, prefix_of, local_of, lexical_of, tag_of, name_of, literal_of, number_type, xsd_boolean, typed_literal, number_literal, boolean_literal}
+use Rattle.query_values.specs.Values.{IsSpelled, between_marks, AreIriChars, iri_of, prefix_of, local_of, lexical_of, tag_of, name_of, number_type, xsd_boolean, typed_literal, number_literal, boolean_literal}
 use Rattle.query_values.proofs.LocalValues.{from_colon-name, before_colon, local_value, local_in_iri}
 use Rattle.query_values.proofs.TermLaws.{lower_characters, other_text}
 use Rattle.query_values.proofs.TokenLaws.{lexical_characters, number_type-irichars, number_type-other, xsd_boolean-irichars, xsd_boolean-other}

@@ -1,5 +1,5 @@
 -- Texts that are written part by part, and the terms whose canonical texts they are.
-use Rattle.std.proofs.Common.{◌≡◌, ◌≢◌, ℕ, Result, Ok, Err, Bool, true, false, if◌then◌else◌, bytes_eq, cond, List, [], ◌∷◌, ◌++◌, map, refl, ap, ◌∙◌, sym, append_assoc, append-nil, arith}
+use Rattle.std.proofs.Common.{◌≡◌, ◌≢◌, ℕ, Result, Ok, Err, Bool, true, false, if◌then◌else◌, bytes_eq, cond, List, [], ◌∷◌, ◌++◌, map, refl, ap, ◌∙◌, sym, append-nil, arith}
 use Rattle.std.specs.Prelude.{encode_utf8, is_ok, OnOk}
 use Rattle.std.specs.Char.{to_ascii_lowercase}
 use Rattle.std.specs.Cmp.Derive.{both_true}
@@ -8,52 +8,21 @@ use Rattle.std.specs.Str.{chars, encode_utf8_all, all_scalars, IsUtf8}
 use Rattle.std.proofs.lemmas.Bool.{and_parts}
 use Rattle.std.proofs.lemmas.Bool.Decides.{nat_tests}
 use Rattle.std.proofs.lemmas.Slice.Eq.{bytes_eq-Decides}
-use Rattle.std.proofs.lemmas.Str.{encodes-append, encodes-chars}
+use Rattle.std.proofs.lemmas.Str.{encodes-chars}
 use lib.Utf8.{scalar}
 use Rattle.bm_term.specs.Classes.{is_scalar}
-use Rattle.bm_term.specs.Canonical.{RdfTerm, iri, plain, tagged, typed, escaped, IsTerm, IsCanonical, canonical_text}
-use Rattle.bm_term.specs.Marks.{quotation_mark, at_sign, circumflex, less_than, greater_than}
-use Rattle.rdf_escapes.proofs.EscapeLaws.{is_scalar-scalar}
+use Rattle.bm_term.specs.Canonical.{RdfTerm, iri, plain, typed, escaped, IsTerm, IsCanonical, canonical_text}
+use Rattle.bm_term.specs.Marks.{quotation_mark, circumflex}
+use Rattle.bm_term.proofs.Scalars.{is_scalar-scalar}
+use Rattle.bm_term.proofs.WrittenTerms.{marked_bytes, typed_bytes}
 
 -- the canonical text of a term is canonical
 pub is_canonical : (term : RdfTerm) (text : List ℕ) → IsTerm term → text ≡ canonical_text term → ∥ IsCanonical text ∥₁
 is_canonical term text is spelled = ∣ record { term = term; is = is; spelled = spelled } ∣₁
 
--- text between marks, written part by part
-pub marked_bytes : (before first second third body : List ℕ) (opening closing : ℕ) → first ≡ before ++ encode_utf8 opening → second ≡ first ++ encode_utf8_all body → third ≡ second ++ encode_utf8 closing → third ≡ before ++ encode_utf8_all (opening ∷ (body ++ closing ∷ []))
-marked_bytes before first second third body opening closing opens inner closes =
-    let tail : encode_utf8_all (body ++ closing ∷ []) ≡ encode_utf8_all body ++ encode_utf8 closing = encodes-append body (closing ∷ []) ∙ ap (λ xs. encode_utf8_all body ++ xs) (append-nil (encode_utf8 closing)) in
-    closes ∙ ap (λ xs. xs ++ encode_utf8 closing) (inner ∙ ap (λ xs. xs ++ encode_utf8_all body) opens)
-    ∙ append_assoc (before ++ encode_utf8 opening) (encode_utf8_all body) (encode_utf8 closing)
-    ∙ append_assoc before (encode_utf8 opening) (encode_utf8_all body ++ encode_utf8 closing)
-    ∙ ap (λ xs. before ++ (encode_utf8 opening ++ xs)) (sym tail)
-
-pub pushed_marked : {A E : Type 0} (result : Result A E) (before first second third body : List ℕ) (opening closing : ℕ) → first ≡ before ++ encode_utf8 opening → second ≡ first ++ encode_utf8_all body → third ≡ (if is_ok result then second ++ encode_utf8 closing else second) → OnOk result (third ≡ before ++ encode_utf8_all (opening ∷ (body ++ closing ∷ [])))
-pushed_marked (Ok u) before first second third body opening closing opens inner closes = marked_bytes before first second third body opening closing opens inner closes
-pushed_marked (Err e) before first second third body opening closing opens inner closes = tt
-
 -- text that is put in, and its characters
 pub text_bytes : (out new text : List ℕ) → IsUtf8 text → new ≡ out ++ text → new ≡ out ++ encode_utf8_all (chars text)
 text_bytes out new text utf8 pushed = pushed ∙ ap (λ xs. out ++ xs) (sym (encodes-chars text utf8))
-
--- what stands behind the closing mark of a lexical form
-behind_mark : (body tail : List ℕ) → encode_utf8_all (quotation_mark ∷ (body ++ quotation_mark ∷ [])) ++ encode_utf8_all tail ≡ encode_utf8_all (quotation_mark ∷ (body ++ quotation_mark ∷ tail))
-behind_mark body tail =
-    sym (encodes-append (quotation_mark ∷ (body ++ quotation_mark ∷ [])) tail)
-    ∙ ap (λ xs. encode_utf8_all (quotation_mark ∷ xs)) (append_assoc body (quotation_mark ∷ []) tail)
-
-pub tagged_bytes : (lexical tag first second third : List ℕ) → first ≡ canonical_text (plain lexical) → second ≡ first ++ encode_utf8 at_sign → third ≡ second ++ encode_utf8_all tag → third ≡ canonical_text (tagged lexical tag)
-tagged_bytes lexical tag first second third form mark language =
-    language ∙ ap (λ xs. xs ++ encode_utf8_all tag) (mark ∙ ap (λ xs. xs ++ encode_utf8 at_sign) form)
-    ∙ append_assoc (canonical_text (plain lexical)) (encode_utf8 at_sign) (encode_utf8_all tag)
-    ∙ behind_mark (escaped lexical) (at_sign ∷ tag)
-
-pub typed_bytes : (lexical datatype first second : List ℕ) → first ≡ canonical_text (plain lexical) → second ≡ first ++ (circumflex ∷ circumflex ∷ []) ++ canonical_text (iri datatype) → second ≡ canonical_text (typed lexical datatype)
-unfolding lib.Utf8.encode
-typed_bytes lexical datatype first second form datatype_is =
-    datatype_is ∙ append_assoc first (circumflex ∷ circumflex ∷ []) (canonical_text (iri datatype))
-    ∙ ap (λ xs. xs ++ encode_utf8_all (circumflex ∷ circumflex ∷ less_than ∷ (datatype ++ greater_than ∷ []))) form
-    ∙ behind_mark (escaped lexical) (circumflex ∷ circumflex ∷ less_than ∷ (datatype ++ greater_than ∷ []))
 
 -- in lower case a character is one
 lower_is_scalar : (c : ℕ) → is_scalar c ≡ true → is_scalar (to_ascii_lowercase c) ≡ true

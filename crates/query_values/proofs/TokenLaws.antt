@@ -10,10 +10,11 @@ use Rattle.bm_term.specs.Canonical.{IsLowerTag, xsd_string}
 use Rattle.bm_term.proofs.LowerTags.{IsLowerTag-lowercase}
 use Rattle.bm_term.proofs.TextLemmas.{IsAscii-list_all}
 use Rattle.rdf_escapes.proofs.Members.{string_values-characters}
+use Rattle.bm_term.specs.Text.{behind_first}
 use Rattle.query_tokens.specs.declared.token.TokenKind.{TokenKind}
 use Rattle.query_tokens.specs.declared.token.TokenKind.TheVariants.{Iri, Prefix, Prefixed, Variable, Quoted, Tag, Integer, Decimal, Double, Word, Blank, Sign, Quotes, Bad}
 use Rattle.query_tokens.specs.Token.{IsToken, IsTag, Lexeme}
-use Rattle.query_values.specs.Values.{IsSpelled, behind_first, between_marks, lexical_of, tag_of, number_type, xsd_boolean, rdf_type}
+use Rattle.query_values.specs.Values.{IsSpelled, between_marks, lexical_of, tag_of, number_type, xsd_boolean, rdf_type}
 
 pub lexical_characters : (token : Lexeme) → all_scalars (lexical_of token) ≡ true
 unfolding lexical_of

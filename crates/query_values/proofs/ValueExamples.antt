@@ -2,7 +2,7 @@
 use Rattle.std.proofs.Common.{◌≡◌, ℕ, refl, List, [], ◌∷◌}
 use Rattle.std.specs.Prelude.{codes}
 use Rattle.bm_term.specs.Classes.{is_scalar, is_digit, is_hex, is_irichar}
-use Rattle.bm_term.specs.Canonical.{plain, xsd_string, escape_letter, canonical_chars}
+use Rattle.bm_term.specs.Canonical.{literal_of, plain, xsd_string, escape_letter, canonical_chars}
 use Rattle.bm_term.specs.Escapes.{echar_value}
 use Rattle.bm_term.specs.Marks.{line_feed}
 use Rattle.bm_term.specs.Text.{after_run}
@@ -13,7 +13,7 @@ use Rattle.rdf_escapes.specs.Reading.{hex_digit, four_digits, uchar_number, read
 use Rattle.query_tokens.specs.declared.token.TokenKind.{TokenKind}
 use Rattle.query_tokens.specs.declared.token.TokenKind.TheVariants.{Iri, Prefix, Prefixed, Variable, Quoted, Tag, Decimal, Word}
 use Rattle.query_tokens.specs.Token.{Lexeme}
-use Rattle.query_values.specs.Values.{is_no_colon, is_no_backslash, iri_of, prefix_of, local_of, lexical_of, tag_of, name_of, literal_of, number_type, xsd_boolean, number_literal, boolean_literal}
+use Rattle.query_values.specs.Values.{is_no_colon, is_no_backslash, iri_of, prefix_of, local_of, lexical_of, tag_of, name_of, number_type, xsd_boolean, number_literal, boolean_literal}
 use Rattle.query_values.proofs.TokenLaws.{ascii_chars}
 
 abbrev pub token : TokenKind → List ℕ → Lexeme

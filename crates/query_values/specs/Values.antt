@@ -1,13 +1,13 @@
 -- What tokens stand for: the characters of IRIs, names and literals, and the terms. SPARQL 1.1 Query, sections 4.1 and
 -- 19.8. Characters are code points.
-use Rattle.std.specs.Prelude.{ℕ, Bool, ◌==◌, not, if◌then◌else◌, IsTrue, bytes_eq, codes, List, [], ◌∷◌, ◌++◌, map}
+use Rattle.std.specs.Prelude.{ℕ, Bool, ◌==◌, not, IsTrue, codes, List, [], ◌∷◌, ◌++◌, map}
 use Rattle.std.specs.Char.{to_ascii_lowercase}
 use Rattle.std.specs.List.{filter, list_all}
 use Rattle.std.specs.Str.{chars, IsUtf8}
 use Rattle.bm_term.specs.Marks.{colon, backslash}
 use Rattle.bm_term.specs.Classes.{is_irichar}
-use Rattle.bm_term.specs.Canonical.{RdfTerm, iri, plain, tagged, typed, xsd_string}
-use Rattle.bm_term.specs.Text.{after_run, before}
+use Rattle.bm_term.specs.Canonical.{RdfTerm, iri, plain, tagged, typed, literal_of}
+use Rattle.bm_term.specs.Text.{behind_first, after_run, before}
 use Rattle.rdf_escapes.specs.Pieces.{values}
 use Rattle.rdf_escapes.specs.Reading.{iri_piece, string_piece}
 use Rattle.query_tokens.specs.declared.token.TokenKind.{TokenKind}
@@ -18,11 +18,6 @@ use Rattle.query_tokens.specs.Token.{IsToken, Lexeme}
 pub record IsSpelled (token : Lexeme) : Type 0 where
   pub utf8 : IsUtf8 token.text
   pub rule : IsToken token.kind (chars token.text)
-
--- what stands behind the first character
-abbrev pub behind_first : List ℕ → List ℕ
-behind_first [] = []
-behind_first (c ∷ cs) = cs
 
 -- the characters that an IRI in brackets spells, its escapes undone
 unfoldable pub iri_of : Lexeme → List ℕ
@@ -71,10 +66,7 @@ name_of token = behind_first token.text
 abbrev pub AreIriChars : List ℕ → Type 0
 AreIriChars cs = IsTrue (list_all is_irichar cs)
 
--- The terms. A literal with a datatype; one of xsd:string is a plain literal.
-unfoldable pub literal_of : List ℕ → List ℕ → RdfTerm
-literal_of lexical datatype = if bytes_eq datatype xsd_string then plain lexical else typed lexical datatype
-
+-- The terms.
 abbrev pub plain_literal : Lexeme → RdfTerm
 plain_literal string = plain (lexical_of string)
 

@@ -1,6 +1,5 @@
 // What tokens stand for: terms.
-ghost use Rattle.std.specs.Prelude.{◌≡◌, ◌≢◌, ◌++◌, IfOk, OnOk, bytes_eq, codes, map, string_bytes};
-ghost use Rattle.std.specs.Char.{to_ascii_lowercase};
+ghost use Rattle.std.specs.Prelude.{◌≡◌, ◌≢◌, ◌++◌, IfOk, OnOk, codes, string_bytes};
 ghost use Rattle.std.specs.Str.{chars, encode_utf8_all};
 ghost use Rattle.bm_term.specs.Canonical.{iri as iri_with, typed, xsd_string, escaped, canonical_text};
 ghost use Rattle.query_tokens.specs.Token.{shown};
@@ -8,12 +7,10 @@ ghost use Rattle.query_tokens.specs.declared.token.TokenKind.TheVariants as kind
 ghost use Rattle.query_values.specs.Values.{IsSpelled, AreIriChars, between_marks, lexical_of, tag_of, number_type, plain_literal, tagged_literal, typed_literal, number_literal, boolean_literal, type_iri};
 
 use crate::values::{behind_first, text_of};
-use bm_term::{Term, push_spelling, split_char};
+use bm_term::{Term, is_xsd_string, push_lower, push_spelling, split_char};
 use query_tokens::{Token, TokenKind};
 use rdf_escapes::push_string_pieces;
 use std::alloc::{AllocError, Global};
-
-const XSD_STRING: &str = "http://www.w3.org/2001/XMLSchema#string";
 
 const XSD_BOOLEAN: &str = "http://www.w3.org/2001/XMLSchema#boolean";
 
@@ -60,15 +57,9 @@ pub fn tagged_term(alloc: Global, string: Token<'_>, tag: Token<'_>) -> Result<T
     Ok(Term::from_canonical(text.into_bytes()))
 }
 
-fn is_xsd_string(iri: &str) -> bool
-    ensures { result ≡ bytes_eq (chars iri.now) xsd_string }
-{
-    iri == XSD_STRING
-}
-
 /// The literal of a string with the IRI of a datatype. One of xsd:string is the literal of the string
 /// alone.
-#[tactic(auto, unfolding(crate::specs::Values::literal_of))]
+#[tactic(auto, unfolding(bm_term::specs::Canonical::literal_of))]
 pub fn typed_term(alloc: Global, string: Token<'_>, datatype: &str) -> Result<Term, AllocError>
     requires string { IsSpelled (shown string) }
     requires datatype { AreIriChars (chars datatype.now) }
@@ -171,18 +162,6 @@ fn push_escaped(out: &mut String, text: &str) -> Result<(), AllocError>
     let mut rest = text;
     while let Some((c, after)) = split_char(rest) {
         push_spelling(out, c)?;
-        rest = after;
-    }
-    Ok(())
-}
-
-// Writes a text in lower case.
-fn push_lower(out: &mut String, text: &str) -> Result<(), AllocError>
-    ensures { OnOk result (string_bytes out.new ≡ string_bytes out.old ++ encode_utf8_all (map to_ascii_lowercase (chars text.now))) }
-{
-    let mut rest = text;
-    while let Some((c, after)) = split_char(rest) {
-        out.push(c.to_ascii_lowercase())?;
         rest = after;
     }
     Ok(())

@@ -2,8 +2,9 @@
 ghost use Rattle.std.specs.Prelude.{◌≡◌, [], ◌∷◌, ◌++◌, IfOk, OnOk, string_bytes};
 ghost use Rattle.std.specs.List.{filter};
 ghost use Rattle.std.specs.Str.{chars, encode_utf8_all};
+ghost use Rattle.bm_term.specs.Text.{behind_first};
 ghost use Rattle.query_tokens.specs.Token.{shown};
-ghost use Rattle.query_values.specs.Values.{IsSpelled, behind_first, from_colon, is_no_colon, is_no_backslash, iri_of, prefix_of, local_of, prefixed_iri, name_of};
+ghost use Rattle.query_values.specs.Values.{IsSpelled, from_colon, is_no_colon, is_no_backslash, iri_of, prefix_of, local_of, prefixed_iri, name_of};
 
 use bm_term::{CharClass, after_run, before, split_char};
 use query_tokens::Token;

@@ -1,7 +1,6 @@
 -- What is read behind a backslash is an escape, and each escape is read.
 use Rattle.std.proofs.Common.{◌≡◌, ℕ, ◌+◌, ◌*◌, true, false, ◌==◌, if◌then◌else◌, Option, Some, None, List, [], ◌∷◌, ◌++◌, length, refl, ap, ◌∙◌, sym, arith, append_assoc, length-append}
 use Rattle.std.proofs.lemmas.Bool.{and_parts}
-use Rattle.std.proofs.lemmas.Bool.Decides.{nat_tests}
 use lib.Utf8.{scalar}
 use Rattle.std.proofs.lemmas.Option.{cond_some, option_and_then_some, same_Some, some_pair_parts}
 use Rattle.std.proofs.lemmas.List.Folds.{list_all-append}
@@ -9,6 +8,7 @@ use Rattle.std.specs.Cmp.Derive.{both_true}
 use Rattle.std.specs.List.{list_all}
 use Rattle.bm_term.specs.Classes.{is_scalar, is_hex}
 use Rattle.bm_term.specs.Marks.{backslash}
+use Rattle.bm_term.proofs.Scalars.{is_scalar-scalar}
 use Rattle.rdf_escapes.specs.Escapes.{letter_u, capital_u, hex_value, hex_number, uchar_length, IsUchar}
 use Rattle.rdf_escapes.specs.Reading.{hex_digit, four_digits, eight_digits, uchar_number, read_uchar}
 
@@ -151,11 +151,6 @@ unfolding read_uchar
 read_uchar-again text rest c is =
     let scalar : is_scalar (hex_number is.digits) ≡ true = ap is_scalar (sym is.number) ∙ is.scalar in
     rw (uchar_number-again is.letter is.digits rest is.count is.hex, scalar, is.number) refl
-
--- the test of the grammars is that of the library
-pub is_scalar-scalar : (c : ℕ) → is_scalar c ≡ scalar c
-unfolding is_scalar
-is_scalar-scalar c = grind (arith, nat_tests)
 
 -- a number that is no character is refused
 pub scalar_is_read : (letter number c : ℕ) (text rest : List ℕ) → Some (number, rest) ≡ uchar_number letter text → scalar number ≡ true → c ≡ number → ◌≡◌ {A = Option (ℕ × List ℕ)} (Some (c, rest)) (read_uchar letter text)

@@ -14,7 +14,7 @@ use Rattle.rdf_escapes.specs.Iris.{IsIriPiece}
 use Rattle.rdf_escapes.specs.Strings.{is_string_char, IsStringPiece}
 use Rattle.rdf_escapes.specs.Pieces.{values}
 use Rattle.rdf_escapes.specs.Reading.{iri_piece, string_piece}
-use Rattle.rdf_escapes.proofs.EscapeLaws.{is_scalar-scalar}
+use Rattle.bm_term.proofs.Scalars.{is_scalar-scalar}
 use Rattle.rdf_escapes.proofs.PieceLaws.{splits}
 use Rattle.rdf_escapes.proofs.CharacterLaws.{iri_piece-forward, iri_piece-passes, string_piece-forward, string_piece-passes}
 

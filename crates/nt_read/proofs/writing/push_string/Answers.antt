@@ -6,7 +6,8 @@ use Rattle.nt_read.specs.declared.found.Quoted.TheVariants.{Raw}
 use Rattle.nt_read.specs.Found.{lexical_of}
 use Rattle.rdf_escapes.specs.Pieces.{values}
 use Rattle.rdf_escapes.specs.Reading.{string_piece}
-use Rattle.nt_read.proofs.WritingLaws.{raw_bytes, pushed_raw, pushed_marked}
+use Rattle.bm_term.proofs.WrittenTerms.{pushed_marked}
+use Rattle.nt_read.proofs.WritingLaws.{raw_bytes, pushed_raw}
 use Rattle.nt_read.proofs.writing.push_string.Goals as goal
 
 pub returns-in-Raw : goal.returns-in-Raw

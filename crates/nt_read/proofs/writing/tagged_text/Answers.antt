@@ -4,7 +4,7 @@ use Rattle.std.specs.Char.{to_ascii_lowercase}
 use Rattle.std.specs.Str.{chars}
 use Rattle.bm_term.specs.Canonical.{plain, canonical_text}
 use Rattle.nt_read.specs.Found.{lexical_of, tag_of}
-use Rattle.nt_read.proofs.LiteralTexts.{tagged_bytes}
+use Rattle.bm_term.proofs.WrittenTerms.{tagged_bytes}
 use Rattle.nt_read.proofs.writing.tagged_text.Goals as goal
 
 pub returns : goal.returns
@@ -12,6 +12,6 @@ unfolding tag_of
 returns c =
     let lexical = lexical_of c.args.string in
     rw c.into_bytes.ensures.value
-    (tagged_bytes (string_bytes c.push_string.new.out) (string_bytes c.push.new.self) (string_bytes c.push_lower.new.out) lexical (map to_ascii_lowercase (chars c.args.tag.now))
+    (tagged_bytes lexical (map to_ascii_lowercase (chars c.args.tag.now)) (string_bytes c.push_string.new.out) (string_bytes c.push.new.self) (string_bytes c.push_lower.new.out)
     (c.in_ok-push_string.ensures ∙ ap (λ xs. xs ++ canonical_text (plain lexical)) c.in_ok-out.ensures.bytes)
     c.in_ok-push.ensures.bytes c.in_ok-push_lower.ensures)

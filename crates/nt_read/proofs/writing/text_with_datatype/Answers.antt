@@ -1,10 +1,9 @@
 use Rattle.std.proofs.Common.{◌≡◌, ℕ, List, ◌++◌, ap, ◌∙◌, sym}
 use Rattle.std.proofs.lemmas.Result.{IfOk-weaker}
 use Rattle.std.specs.Prelude.{string_bytes}
-use Rattle.bm_term.specs.Canonical.{iri, plain, IsTerm, canonical_text}
+use Rattle.bm_term.specs.Canonical.{iri, plain, literal_of, IsTerm, canonical_text}
 use Rattle.nt_read.specs.Found.{lexical_of}
-use Rattle.nt_read.specs.LineReading.{literal_of}
-use Rattle.nt_read.proofs.LiteralTexts.{typed_bytes, is_xsd_string, is_other_type, plain_of_string, typed_of_other}
+use Rattle.nt_read.proofs.LiteralTexts.{datatype_bytes, is_xsd_string, is_other_type, plain_of_string, typed_of_other}
 use Rattle.nt_read.proofs.writing.text_with_datatype.Goals as goal
 
 pub returns-then-eq : goal.returns-then-eq
@@ -22,6 +21,6 @@ returns c =
     λ cs is same.
     typed_of_other c.into_bytes.result.items lexical cs (is_other_type cs c.args.datatype.now same (sym c.eq.ensures ∙ c.if-eq.false))
     (rw c.into_bytes.ensures.value
-    (typed_bytes (string_bytes c.push_string.new.out) (string_bytes c.push_str.new.self) (string_bytes c.push_str-2.new.self) c.args.datatype.now lexical cs
+    (datatype_bytes (string_bytes c.push_string.new.out) (string_bytes c.push_str.new.self) (string_bytes c.push_str-2.new.self) c.args.datatype.now lexical cs
     (c.in_ok-push_string.ensures ∙ ap (λ xs. xs ++ canonical_text (plain lexical)) c.in_ok-out.ensures.bytes)
     c.in_ok-push_str.ensures.bytes c.in_ok-push_str-2.ensures.bytes same))

@@ -5,7 +5,7 @@ use Rattle.bm_term.specs.Canonical.{escaped}
 use Rattle.bm_term.specs.Marks.{quotation_mark}
 use Rattle.query_tokens.specs.Token.{shown}
 use Rattle.query_values.specs.Values.{between_marks, lexical_of}
-use Rattle.query_values.proofs.TermLaws.{pushed_marked}
+use Rattle.bm_term.proofs.WrittenTerms.{pushed_marked}
 use Rattle.query_values.proofs.terms.push_quoted.Goals as goal
 
 pub returns : goal.returns

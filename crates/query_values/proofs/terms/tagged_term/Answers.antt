@@ -3,9 +3,11 @@ use Rattle.std.specs.Prelude.{string_bytes}
 use Rattle.std.specs.Char.{to_ascii_lowercase}
 use Rattle.std.specs.Str.{chars, encode_utf8_all}
 use Rattle.bm_term.specs.Canonical.{canonical_text}
+use Rattle.bm_term.specs.Text.{behind_first}
 use Rattle.query_tokens.specs.Token.{shown}
-use Rattle.query_values.specs.Values.{behind_first, lexical_of, tag_of, plain_literal, tagged_literal}
-use Rattle.query_values.proofs.TermLaws.{is_canonical, tagged_bytes}
+use Rattle.query_values.specs.Values.{lexical_of, tag_of, plain_literal, tagged_literal}
+use Rattle.bm_term.proofs.WrittenTerms.{tagged_bytes}
+use Rattle.query_values.proofs.TermLaws.{is_canonical}
 use Rattle.query_values.proofs.TokenLaws.{lexical_characters, tag_of-lower}
 use Rattle.query_values.proofs.terms.tagged_term.Goals as goal
 

@@ -1,10 +1,11 @@
 use Rattle.std.proofs.Common.{◌≡◌, false, bytes_eq, ◌++◌, ◌∙◌, sym, ap}
 use Rattle.std.specs.Prelude.{string_bytes}
 use Rattle.std.specs.Str.{chars}
-use Rattle.bm_term.specs.Canonical.{typed, xsd_string, canonical_text}
+use Rattle.bm_term.specs.Canonical.{literal_of, typed, xsd_string, canonical_text}
 use Rattle.query_tokens.specs.Token.{shown}
-use Rattle.query_values.specs.Values.{lexical_of, literal_of, plain_literal}
-use Rattle.query_values.proofs.TermLaws.{is_canonical, typed_bytes, other_text}
+use Rattle.query_values.specs.Values.{lexical_of, plain_literal}
+use Rattle.bm_term.proofs.WrittenTerms.{typed_bytes}
+use Rattle.query_values.proofs.TermLaws.{is_canonical, other_text}
 use Rattle.query_values.proofs.TokenLaws.{lexical_characters}
 use Rattle.query_values.proofs.terms.typed_term.Goals as goal
 

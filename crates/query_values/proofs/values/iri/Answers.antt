@@ -4,7 +4,8 @@ use Rattle.std.specs.Str.{chars, encode_utf8_all}
 use Rattle.rdf_escapes.specs.Pieces.{values}
 use Rattle.rdf_escapes.specs.Reading.{iri_piece}
 use Rattle.rdf_escapes.proofs.Members.{iri_values-irichars, irichars_are_characters}
-use Rattle.query_values.specs.Values.{behind_first, iri_of}
+use Rattle.bm_term.specs.Text.{behind_first}
+use Rattle.query_values.specs.Values.{iri_of}
 use Rattle.query_values.proofs.values.iri.Goals as goal
 
 pub returns : goal.returns

@@ -2,7 +2,8 @@ use Rattle.std.proofs.Common.{◌++◌, ◌∙◌, ap}
 use Rattle.std.proofs.lemmas.Str.{chars-append, chars-encodes, scalars-chars}
 use Rattle.std.specs.List.{filter}
 use Rattle.std.specs.Str.{chars, encode_utf8_all}
-use Rattle.query_values.specs.Values.{behind_first, from_colon, is_no_backslash, local_of}
+use Rattle.bm_term.specs.Text.{behind_first}
+use Rattle.query_values.specs.Values.{from_colon, is_no_backslash, local_of}
 use Rattle.query_values.proofs.TermLaws.{some_characters}
 use Rattle.query_values.proofs.values.prefixed_iri.Goals as goal
 

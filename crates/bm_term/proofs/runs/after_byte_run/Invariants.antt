@@ -1,6 +1,6 @@
 use Rattle.std.proofs.Common.{◌≡◌, length}
 use Rattle.bm_term.specs.Text.{after_run}
-use Rattle.nt_read.proofs.runs.after_byte_run.Given as goal
+use Rattle.bm_term.proofs.runs.after_byte_run.Given as goal
 
 abbrev pub invariant-loop-rest : goal.invariant-loop-rest
 invariant-loop-rest g l = after_run g.C.ByteClass.members l.rest ≡ after_run g.C.ByteClass.members l.bytes

@@ -3,10 +3,10 @@ use Rattle.std.specs.Prelude.{string_bytes}
 use Rattle.std.specs.Str.{chars, encode_utf8_all}
 use Rattle.std.proofs.Common.{map}
 use Rattle.std.specs.Char.{to_ascii_lowercase}
-use Rattle.query_values.proofs.WalkLaws.{walk_step, walk_end}
+use Rattle.bm_term.proofs.WalkLaws.{walk_step, walk_end}
 use Rattle.std.proofs.Common.{[], ◌∷◌, ◌∙◌, ap, append-nil, sym}
 use Rattle.std.specs.Prelude.{encode_utf8}
-use Rattle.query_values.proofs.terms.push_lower.Goals as goal
+use Rattle.bm_term.proofs.writing.push_lower.Goals as goal
 
 pub loop-c-preserved : goal.loop-c-preserved
 loop-c-preserved c = (

@@ -1,6 +1,6 @@
 use Rattle.std.proofs.Common.{◌∙◌, sym}
-use Rattle.nt_read.proofs.ByteWalks.{block_passed}
-use Rattle.nt_read.proofs.runs.after_blocks.Goals as goal
+use Rattle.bm_term.proofs.ByteRuns.{block_passed}
+use Rattle.bm_term.proofs.runs.after_blocks.Goals as goal
 
 pub loop-block-preserved : goal.loop-block-preserved
 loop-block-preserved g c =

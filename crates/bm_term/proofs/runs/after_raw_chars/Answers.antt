@@ -1,5 +1,5 @@
-use Rattle.nt_read.proofs.ByteWalks.{raw_bytes-ends}
-use Rattle.nt_read.proofs.runs.after_raw_chars.Goals as goal
+use Rattle.bm_term.proofs.ByteRuns.{raw_bytes-ends}
+use Rattle.bm_term.proofs.runs.after_raw_chars.Goals as goal
 
 pub end_of-requires-clause-ends : goal.end_of-requires-clause-ends
 end_of-requires-clause-ends c =
