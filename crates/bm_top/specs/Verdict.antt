@@ -1,5 +1,5 @@
--- The verdict of a command on files: the first step of its order whose condition holds decides. It knows nothing of
--- how the program works.
+-- The verdict of a command on files: the first step of its order whose condition holds decides. What data and a query
+-- mean is told by functions here; that it is what the standards say is a law (`the_verdict_is_the_standards`).
 use Rattle.std.specs.Prelude.{ℕ, List, [], ◌++◌, Option, Some, None, Result, Ok, Err, nat_lt, length, if◌then◌else◌, decimal}
 use Rattle.std.specs.FinMap.{get}
 use Rattle.bm_term.specs.Graph.{graph_of}
