@@ -14,7 +14,7 @@ use Rattle.alg_model.specs.Pattern.{Basic}
 use Rattle.query_values.specs.Values.{name_of}
 use Rattle.sparql_parse.specs.declared.fault.QueryFault.TheVariants as faults
 use Rattle.sparql_parse.specs.Names.{names_of, namespace_with, namespace_of, declarations_of}
-use Rattle.sparql_parse.specs.Faults.{fault_of, open_groups}
+use Rattle.sparql_parse.specs.Faults.{fault_of}
 use Rattle.sparql_parse.specs.Building.{step}
 use Rattle.sparql_parse.specs.Reading.{and_then, first, read_on, read_next, query_of, query_at_end}
 
@@ -42,16 +42,16 @@ at place kind text = record { kind = kind; text = text; at = place }
 the_empty_group :
     and_then (query_at_end 12) (read_on first (at 0 kinds.Word (codes "SELECT") ∷ at 7 kinds.Sign (codes "*") ∷ at 9 kinds.Sign (codes "{") ∷ at 11 kinds.Sign (codes "}") ∷ []))
     ≡ Ok (record { names = []; pattern = Basic []; columns = []; distinct = false })
-unfolding read_on read_next next_step terminal_of fault_of names_of declarations_of open_groups query_of step
+unfolding read_on read_next next_step terminal_of fault_of names_of declarations_of query_of step
 the_empty_group = refl
 
 -- SELECT * {
 an_open_group : and_then (query_at_end 10) (read_on first (at 0 kinds.Word (codes "SELECT") ∷ at 7 kinds.Sign (codes "*") ∷ at 9 kinds.Sign (codes "{") ∷ [])) ≡ Err (faults.Syntax 10)
-unfolding read_on read_next next_step terminal_of fault_of names_of declarations_of open_groups
+unfolding read_on read_next next_step terminal_of fault_of names_of declarations_of
 an_open_group = refl
 
 -- SELECT * { filter %
 the_first_fault_counts :
     read_on first (at 0 kinds.Word (codes "SELECT") ∷ at 7 kinds.Sign (codes "*") ∷ at 9 kinds.Sign (codes "{") ∷ at 11 kinds.Word (codes "filter") ∷ at 18 kinds.Bad (codes "%") ∷ []) ≡ Err (faults.Unsupported 11 words.Filter)
-unfolding read_on read_next next_step terminal_of unsupported_word fault_of names_of declarations_of open_groups
+unfolding read_on read_next next_step terminal_of unsupported_word fault_of names_of declarations_of
 the_first_fault_counts = refl
