@@ -318,6 +318,7 @@ fn runs_end_where_they_do(rt: HostRuntime) {
     for (text, after_iri, after_raw) in [
         ("", "", ""),
         ("é \"", " \"", "\""),
+        ("01234 \"789abcdefgh", " \"789abcdefgh", "\"789abcdefgh"),
         ("0123456789abcde>\\g", ">\\g", "\\g"),
         ("0123456789abcdef>\n", ">\n", "\n"),
         ("0123456789文字\u{7f}\u{10ffff}|\t", "|\t", "\t"),
