@@ -8,34 +8,48 @@ use Rattle.bm_world.specs.declared.world.Failed.{Failed}
 use Rattle.bm_top.specs.declared.ending.Ending.{Ending}
 use Rattle.bm_top.specs.declared.ending.Ending.TheVariants as ends
 use Rattle.bm_top.specs.Verdict.{Verdict, refused, read_fault_line}
-use Rattle.bm_top.specs.Ending.{EndsSo, HasReason, status_of, line_of}
+use Rattle.bm_top.specs.Ending.{EndsSo, HasReason, Printed, ReadOnly, status_of, line_of}
 use Rattle.bm_top.specs.Run.{IsComplete, IsHonest, Outputs, KeepsFiles, ComplainsLine, Complains}
 
--- a command keeps files and complaints
-kept : (verdict : Verdict) (ending : Ending) (m k : Meanings) → EndsSo verdict ending m k → (k.files ≡ m.files) × (k.complained ≡ m.complained)
-kept verdict ends.Done m k ended = (ap (λ (w : Meanings). w.files) ended.1, ap (λ (w : Meanings). w.complained) ended.1)
-kept verdict ends.WriteFault m k (done, (count, moved)) = (ap (λ (w : Meanings). w.files) moved, ap (λ (w : Meanings). w.complained) moved)
-kept verdict ends.Memory m k ended = (ap (λ (w : Meanings). w.files) ended, ap (λ (w : Meanings). w.complained) ended)
-kept verdict (ends.ReadFault name) m k ended = (ap (λ (w : Meanings). w.files) ended, ap (λ (w : Meanings). w.complained) ended)
-kept verdict ends.Usage m k ended = (ap (λ (w : Meanings). w.files) ended.1, ap (λ (w : Meanings). w.complained) ended.1)
-kept verdict (ends.BadLine line) m k ended = (ap (λ (w : Meanings). w.files) ended.1, ap (λ (w : Meanings). w.complained) ended.1)
-kept verdict (ends.QueryRefused fault) m k ended = (ap (λ (w : Meanings). w.files) ended.1, ap (λ (w : Meanings). w.complained) ended.1)
-kept verdict (ends.TooLong name limit) m k ended = (ap (λ (w : Meanings). w.files) ended.1, ap (λ (w : Meanings). w.complained) ended.1)
+-- a command keeps files, one that is being made, and complaints
+record Kept (m k : Meanings) : Type 0 where
+  files : k.files ≡ m.files
+  made : k.made ≡ m.made
+  complained : k.complained ≡ m.complained
+
+kept_read : (m k : Meanings) → ReadOnly m k → Kept m k
+kept_read m k moved = record { files = ap (λ (w : Meanings). w.files) moved; made = ap (λ (w : Meanings). w.made) moved; complained = ap (λ (w : Meanings). w.complained) moved }
+
+kept_printed : (text : List ℕ) (m k : Meanings) → Printed text m k → Kept m k
+kept_printed text m k moved = record { files = ap (λ (w : Meanings). w.files) moved; made = ap (λ (w : Meanings). w.made) moved; complained = ap (λ (w : Meanings). w.complained) moved }
+
+kept : (verdict : Verdict) (ending : Ending) (m k : Meanings) → EndsSo verdict ending m k → Kept m k
+kept verdict ends.Done m k ended = kept_printed verdict.text m k ended.1
+kept verdict ends.WriteFault m k (done, (count, moved)) = kept_printed (take count verdict.text) m k moved
+kept verdict ends.Memory m k ended = kept_read m k ended
+kept verdict (ends.ReadFault name) m k ended = kept_read m k ended
+kept verdict ends.Usage m k ended = kept_read m k ended.1
+kept verdict (ends.BadLine line) m k ended = kept_read m k ended.1
+kept verdict (ends.QueryRefused fault) m k ended = kept_read m k ended.1
+kept verdict (ends.TooLong name limit) m k ended = kept_read m k ended.1
 
 -- after a line was complained, or a front of it
 record Said (line : List ℕ) (k n : Meanings) : Type 0 where
   files : n.files ≡ k.files
+  made : n.made ≡ k.made
   printed : n.printed ≡ k.printed
   front : (count : ℕ) × (n.complained ≡ k.complained ++ take count line)
 
 said_so : (line : List ℕ) (said : Result (Unit {0}) Failed) (k n : Meanings) → AppendsAll with_complained line said k n → Said line k n
 said_so line (Ok u) k n moved = record {
   files = ap (λ (w : Meanings). w.files) moved;
+  made = ap (λ (w : Meanings). w.made) moved;
   printed = ap (λ (w : Meanings). w.printed) moved;
   front = (length line, ap (λ (w : Meanings). w.complained) moved ∙ ap (λ part. k.complained ++ part) (sym (take-length line)));
 }
 said_so line (Err e) k n (count, moved) = record {
   files = ap (λ (w : Meanings). w.files) moved;
+  made = ap (λ (w : Meanings). w.made) moved;
   printed = ap (λ (w : Meanings). w.printed) moved;
   front = (count, ap (λ (w : Meanings). w.complained) moved);
 }
@@ -56,7 +70,9 @@ unprinted verdict status line said m k n no0 no6 no7 same complained = record {
 
 pub KeepsFiles-ended : (verdict : Verdict) (ending : Ending) (said : Result (Unit {0}) Failed) (m k n : Meanings) → EndsSo verdict ending m k → AppendsAll with_complained (line_of ending) said k n → KeepsFiles m n
 KeepsFiles-ended verdict ending said m k n ended complained =
-    (said_so (line_of ending) said k n complained).files ∙ (kept verdict ending m k ended).0
+    let after = said_so (line_of ending) said k n complained in
+    let before = kept verdict ending m k ended in
+    record { files = after.files ∙ before.files; made = after.made ∙ before.made }
 
 pub IsHonest-ended : (verdict : Verdict) (ending : Ending) (m k : Meanings) → EndsSo verdict ending m k → IsHonest verdict (status_of ending)
 IsHonest-ended verdict ends.Done m k ended = record { answer = λ _ _ _. sym ended.0; write_fault = λ e. absurd (omega arith) }
@@ -142,7 +158,7 @@ Outputs-ended verdict (ends.TooLong name limit) said m k n ended complained = un
 line_said : (ending : Ending) (said : Result (Unit {0}) Failed) (verdict : Verdict) (says says_now : ℕ) (m k n : Meanings) → EndsSo verdict ending m k → AppendsAll with_complained (line_of ending) said k n → OnErr said (Rose says says_now) → ComplainsLine (line_of ending) says says_now m n
 line_said ending said verdict says says_now m k n ended complained cause =
     let after = said_so (line_of ending) said k n complained in
-    let before = (kept verdict ending m k ended).1 in
+    let before = (kept verdict ending m k ended).complained in
     record {
       front = (after.front.0, after.front.1 ∙ ap (λ text. text ++ take after.front.0 (line_of ending)) before);
       whole = λ quiet. said_all (line_of ending) says says_now said k n complained cause quiet ∙ ap (λ text. text ++ line_of ending) before;

@@ -90,7 +90,7 @@ within-goes name limit bytes next short = ap (λ b. if b then refused 8 (limit_l
 reading-goes : (files : Files) (name : List ℕ) (limit : ℕ) (bytes : List ℕ) (next : List ℕ → Verdict) → get files name ≡ Some bytes → length bytes ≤ limit → reading files name limit next ≡ next bytes
 reading-goes files name limit bytes next found short = ap (λ o. reading_file name limit o next) found ∙ within-goes name limit bytes next short
 
-asked-decided : (words : List (List ℕ)) (files : Files) (bytes text : List ℕ) → Asks words files bytes text → verdict_of words files ≡ decided bytes text
+pub asked-decided : (words : List (List ℕ)) (files : Files) (bytes text : List ℕ) → Asks words files bytes text → verdict_of words files ≡ decided bytes text
 unfolding request_verdict query_verdict
 asked-decided words files bytes text asks =
     ap (verdict_at files) asks.command

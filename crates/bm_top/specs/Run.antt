@@ -22,8 +22,10 @@ pub record Outputs (verdict : Verdict) (status : ℕ) (m n : Meanings) : Type 0 
   pub front : (status ≡ 6) ⊎ (status ≡ 7) → (count : ℕ) × (n.printed ≡ m.printed ++ take count verdict.text)
   pub nothing : status ≢ 0 → status ≢ 6 → status ≢ 7 → n.printed ≡ m.printed
 
-abbrev pub KeepsFiles : Meanings → Meanings → Type 0
-KeepsFiles m n = n.files ≡ m.files
+-- no file is changed, and one that is being made goes on being made
+pub record KeepsFiles (m n : Meanings) : Type 0 where
+  pub files : n.files ≡ m.files
+  pub made : n.made ≡ m.made
 
 -- what shows that a call failed
 pub record HasCauses (verdict : Files → Verdict) (told : Option Meanings) (reads reads_now writes writes_now status : ℕ) : Type 0 where

@@ -1,5 +1,5 @@
--- What a command is to answer, by the relations of the standards alone: what N-Triples spell, what a text denotes as a
--- query, and the algebra. Nothing here tells how anything is read.
+-- What a command is to answer: by the relations of what lines spell and what a text denotes, and by the definitions of
+-- the algebra, of the order of rows and of the text. Nothing here tells how data or a query is read.
 -- N-Triples 1.1, section 7; SPARQL 1.1 Query, sections 18.2, 18.5 and 19.8.
 use Rattle.std.specs.Prelude.{◌≡◌, ◌⊎◌, ℕ, ◌≤◌, List, ◌++◌, length, Some}
 use Rattle.std.specs.FinMap.{get}
@@ -48,7 +48,7 @@ pub record Asks (words : List (List ℕ)) (files : Files) (bytes text : List ℕ
   pub data_within : length bytes ≤ MAX_DATA_BYTES
   pub query_within : length text ≤ MAX_QUERY_BYTES
 
--- the text is printed whole where the status is 0, which it is without a failing call and without want of memory
+-- the text is printed whole where the status is 0; without a failing call the status is 0, or 7
 pub record Prints (text : List ℕ) (reads reads_now writes writes_now status : ℕ) (m n : Meanings) : Type 0 where
   pub ends : ¬ Rose reads reads_now → ¬ Rose writes writes_now → (status ≡ 0) ⊎ (status ≡ 7)
   pub whole : status ≡ 0 → n.printed ≡ m.printed ++ text

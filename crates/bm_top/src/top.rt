@@ -17,7 +17,7 @@ use std::alloc::Global;
 /// bad line; 3 where the query is refused; 5 where a file was not read, and 6 where the output was not
 /// written; 7 where memory ran out; 8 where a file is too long.
 pub fn run<W: World>(alloc: Global, words: &[String], world: &mut W) -> u8
-    // The headline: what is printed is the text of the solutions of the query that the one file denotes over the set
+    // The headline: what is printed is the text of the solutions of the query that the one file denotes, over the set
     // of triples that the other spells.
     ensures answers { Step (W.told world.old) (W.told world.new) (λ m n. (bytes text printed : List ℕ) →
         Asks (map string_bytes words.now) m.files bytes text → IsAnswer bytes text printed →

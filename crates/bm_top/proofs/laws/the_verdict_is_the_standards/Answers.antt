@@ -1,4 +1,4 @@
-use Rattle.bm_top.proofs.StandardLaws.{answer-decided, bad_line-decided, decided-answer, refusal-decided}
+use Rattle.bm_top.proofs.StandardLaws.{answer-decided, asked-decided, bad_line-decided, decided-answer, refusal-decided}
 use Rattle.bm_top.proofs.laws.the_verdict_is_the_standards.Goals as goal
 
 pub returns-clause-answer : goal.returns-clause-answer
@@ -9,3 +9,6 @@ returns-clause-bad_line c = bad_line-decided
 
 pub returns-clause-refusal : goal.returns-clause-refusal
 returns-clause-refusal c = refusal-decided
+
+pub returns-clause-asked : goal.returns-clause-asked
+returns-clause-asked c = asked-decided
