@@ -1,4 +1,4 @@
-# Two commands: `make example` builds the program and asks the example; `make gate` runs the gate.
+# `make example` builds the program and asks the example; `make gate` runs the gate; `make bench` times the program.
 .PHONY: example gate bench build
 
 example: build
