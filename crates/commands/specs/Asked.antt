@@ -4,6 +4,7 @@ use Rattle.bm_world.specs.Meanings.{nothing_yet}
 use Rattle.bm_world.specs.MemWorld.{MemState, with_file}
 use Rattle.bm_top.specs.Command.{request_of}
 use Rattle.bm_top.specs.Run.{IsComplete, IsHonest, Outputs, KeepsFiles, HasCauses, Complains}
+use Rattle.bm_top.specs.Standard.{Asks, IsAnswer, Prints}
 use Rattle.bm_top.specs.Verdict.{verdict_of}
 
 -- a world with no files, and no call that is to fail
@@ -16,6 +17,8 @@ world_with triples query = with_file (with_file no_files (codes "d") triples) (c
 
 -- the program ran over a world, by these words: all that is known of its status, and of the world that it left
 pub record Ran (words : List (List ℕ)) (old new : MemState) (status : ℕ) : Type 0 where
+  pub answers : (bytes text printed : List ℕ) → Asks words old.meanings.files bytes text → IsAnswer bytes text printed →
+      Prints printed old.read_faults new.read_faults old.write_faults new.write_faults status old.meanings new.meanings
   pub usage : request_of words ≡ None → status ≡ 1
   pub complete : IsComplete (verdict_of words old.meanings.files) old.read_faults new.read_faults old.write_faults new.write_faults status
   pub honest : IsHonest (verdict_of words old.meanings.files) status

@@ -8,6 +8,7 @@ returns-clause-ran c =
     let old = c.args.world.now in
     let new = c.run.new.world in
     let ran : Ran (map string_bytes c.as_slice.result.now) old new c.run.result = record {
+      answers = c.run.ensures.answers.moves old.meanings new.meanings refl refl;
       usage = c.run.ensures.usage;
       complete = c.run.ensures.complete.moves old.meanings new.meanings refl refl;
       honest = c.run.ensures.honest.moves old.meanings new.meanings refl refl;
