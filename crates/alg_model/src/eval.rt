@@ -13,7 +13,8 @@ use bm_term::{Term, Triple};
 use std::alloc::{AllocError, Global};
 
 /// The rows of a pattern over triples, as the SPARQL algebra has them: each as often as there, in any
-/// order. `vars` is the number of cells of a row. It is plain: nested loops over lists.
+/// order. `vars` is the number of cells of a row. All variables of the pattern have numbers below it, and no
+/// triple stands twice. `Err` only where memory runs out. It is plain: nested loops over lists.
 pub fn eval_plain(
     alloc: Global,
     pattern: &Pattern,

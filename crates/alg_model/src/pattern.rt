@@ -8,7 +8,9 @@ use std::marker::Model;
 /// A place of a triple pattern: a variable, or a term that has to stand there.
 #[derive(Debug, Drop)]
 pub enum Place {
+    /// A variable: any term may stand there, and the variable is bound to it.
     Var(Var),
+    /// A term that has to stand there itself.
     Term(Term),
 }
 
@@ -34,7 +36,7 @@ pub enum Pattern {
 impl Pattern {
     ghost use Rattle.alg_model.specs.Pattern.{Joined, Optional, algebra_of};
 
-    /// The Join of two patterns.
+    /// The Join of two patterns. `Err` only where memory runs out, and then both are lost.
     pub fn join(alloc: Global, left: Pattern, right: Pattern) -> Result<Pattern, AllocError>
         ensures { IfOk result (λ pattern. algebra_of pattern ≡ Joined (algebra_of left) (algebra_of right)) }
     {
@@ -43,7 +45,7 @@ impl Pattern {
         Ok(Pattern::Join(left, right))
     }
 
-    /// The LeftJoin of a pattern and an optional part.
+    /// The LeftJoin of a pattern and an optional part. `Err` only where memory runs out, and then both are lost.
     pub fn left_join(alloc: Global, left: Pattern, right: Pattern) -> Result<Pattern, AllocError>
         ensures { IfOk result (λ pattern. algebra_of pattern ≡ Optional (algebra_of left) (algebra_of right)) }
     {
@@ -78,12 +80,14 @@ impl PatList {
         }
     }
 
+    /// How many patterns there are.
     pub fn len(&self) -> usize
         ensures { result ≡ length self.now }
     {
         self.patterns.len()
     }
 
+    /// Whether there is no pattern.
     pub fn is_empty(&self) -> bool
         ensures { result ≡ (length self.now == 0) }
     {
@@ -98,6 +102,7 @@ impl PatList {
         &self.patterns[i]
     }
 
+    /// The patterns in their order.
     pub fn as_slice(&self) -> &[TriplePat]
         ensures { result.now ≡ self.now }
     {

@@ -41,12 +41,14 @@ impl Names {
         }
     }
 
+    /// How many names there are.
     pub fn len(&self) -> usize
         ensures { result ≡ length self.now }
     {
         self.names.len()
     }
 
+    /// Whether there is no name.
     pub fn is_empty(&self) -> bool
         ensures { result ≡ (length self.now == 0) }
     {
@@ -109,12 +111,14 @@ impl Columns {
         }
     }
 
+    /// How many variables there are.
     pub fn len(&self) -> usize
         ensures { result ≡ length self.now }
     {
         self.vars.len()
     }
 
+    /// Whether there is no variable.
     pub fn is_empty(&self) -> bool
         ensures { result ≡ (length self.now == 0) }
     {

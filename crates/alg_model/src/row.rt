@@ -36,12 +36,13 @@ impl Row {
         Ok(Row { cells })
     }
 
-    // The row that binds one variable.
+    // The row that binds one variable, whose number is below `vars`.
     pub(crate) fn single(alloc: Global, vars: u8, var: Var, term: &Term) -> Result<Row, AllocError>
         ensures { IfOk result (λ row. row ≡ single vars var.0 term.now) }
     {
         let mut row = Row::unbound(alloc, vars)?;
         let value = Some(term.clone()?);
+        // The other case never comes: `eval_plain` has patterns whose variables are below `vars`.
         if (var.0 as usize) < row.cells.len() {
             row.cells[var.0 as usize] = value;
         }
@@ -113,12 +114,14 @@ impl RowList {
         RowList { rows }
     }
 
+    /// How many rows there are.
     pub fn len(&self) -> usize
         ensures { result ≡ length self.now }
     {
         self.rows.len()
     }
 
+    /// Whether there is no row.
     pub fn is_empty(&self) -> bool
         ensures { result ≡ (length self.now == 0) }
     {

@@ -90,7 +90,7 @@ impl MemWorld {
     }
 
     /// From now on the `k`-th call of this kind fails, counted from 1: it takes no bytes and raises
-    /// its count. What was scheduled before stays so.
+    /// its count. 0 names no call. What was scheduled before stays so.
     pub fn fail_at(&mut self, call: WorldCall, k: u64) -> Result<(), AllocError>
         ensures ok { OnOk result (self.new ≡
             record self.old { schedule = self.old.schedule ++ (call, k) ∷ [] }) }
@@ -106,12 +106,14 @@ impl MemWorld {
         self.files.get(name)
     }
 
+    /// All that was printed.
     pub fn printed(&self) -> &[u8]
         ensures { result.now ≡ self.now.meanings.printed }
     {
         self.printed.as_slice()
     }
 
+    /// All that was complained.
     pub fn complained(&self) -> &[u8]
         ensures { result.now ≡ self.now.meanings.complained }
     {

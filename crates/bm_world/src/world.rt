@@ -9,7 +9,8 @@ pub struct Failed;
 
 /// One opened file, one file that is being made, and two streams that grow. Each call has one of
 /// three counts of failures as its own, and leaves the other two as they were. It answers `Failed`
-/// only where it raises its count, or where its case is told and is a failure.
+/// only where it raises its count, or where its case is told and is a failure. A world may stop telling, and
+/// none begins to: then no clause on its content is left, and the counts alone show a failure.
 pub trait World {
     /// The meanings, if this world tells them. Clauses on them hold where they are told at the
     /// entry and at the exit of the call.

@@ -12,7 +12,9 @@ use crate::variables::variables_of;
 /// shares at most one variable with its parent.
 ///
 /// The patterns of node k stand in `sets` from `ends[k - 1]`, or from 0 for node 0, up to `ends[k]`, and its parent
-/// is `parents[k]`. `parents[0]` is not read.
+/// is `parents[k]`. `parents[0]` is not read. There is at least one node, and `parents` and `ends` have one
+/// entry a node. Parents stand before their children, `ends` never fall, the last of them is the length of
+/// `sets`, and there are at most 256 patterns.
 pub fn is_simple(parents: &[u8], ends: &[u16], sets: &[u64]) -> bool
     requires some_node { 0 < length ends.now }
     requires few_sets { length sets.now ≤ 256 }

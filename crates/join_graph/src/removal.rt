@@ -12,7 +12,8 @@ use crate::steps::{Order, Step};
 use crate::variables::variables_of;
 
 /// Removes, again and again, a member that has at most one neighbour left: the first pattern of this kind, and
-/// where there is none, the least variable of this kind. What can never be removed is the core.
+/// where there is none, the least variable of this kind. What can never be removed is the core. There are at
+/// most 256 patterns.
 pub fn strip(sets: &[u64]) -> Order
     requires { length sets.now ≤ 256 }
 

@@ -32,7 +32,8 @@ impl Model for MaskPool {
 }
 
 impl MaskPool {
-    /// A pool of so many words, from which nothing is taken yet. This is the one call that takes memory.
+    /// A pool of so many words, from which nothing is taken yet. This is the one call that takes memory, and
+    /// `Err` is only where that runs out.
     pub fn with_room(alloc: Global, words: u32) -> Result<MaskPool, AllocError>
         ensures { IfOk result (λ pool. pool ≡ record { words = []; spare = words }) }
     {
@@ -49,7 +50,8 @@ impl MaskPool {
         self.words.len() as u32 - self.taken
     }
 
-    /// Takes a mask of so many bits, which has all numbers below them.
+    /// Takes a mask of so many bits, which has all numbers below them. There are `bits` / 64 words left,
+    /// rounded up.
     pub fn take(&mut self, bits: u32) -> Mask
         requires { words_for bits ≤ self.old.spare }
         ensures bits { result.bits ≡ bits }
@@ -67,7 +69,8 @@ impl MaskPool {
         mask
     }
 
-    /// The words of a mask: number n is bit n mod 64 of word n / 64.
+    /// The words of a mask: number n is bit n mod 64 of word n / 64. The mask is live: it lies within the
+    /// words that were taken.
     pub fn read(&self, mask: Mask) -> &[u64]
         requires { IsLive self.now mask }
         ensures words { result.now ≡ words_of self.now mask }
@@ -76,7 +79,7 @@ impl MaskPool {
         &self.words[mask.start()..mask.end()]
     }
 
-    /// The words of a mask, to be written.
+    /// The words of a mask, to be written. The mask is live.
     pub fn write(&mut self, mask: Mask) -> &mut [u64]
         requires { IsLive self.old mask }
         ensures* writes_back { sem 𝓛 (LendsMask self.entry mask result) }
@@ -86,7 +89,7 @@ impl MaskPool {
         self.words_between(mask.start(), mask.end())
     }
 
-    /// The words of two masks that do not overlap: the first to be written, the second to be read.
+    /// The words of two masks that are live and do not overlap: the first to be written, the second to be read.
     pub fn pair(&mut self, into: Mask, other: Mask) -> (&mut [u64], &[u64])
         requires into_live { IsLive self.old into }
         requires other_live { IsLive self.old other }

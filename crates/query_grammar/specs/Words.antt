@@ -1,4 +1,5 @@
--- The words of SPARQL 1.1 that the grammar of this project leaves out, with the texts by which they are named.
+-- The words and signs with which a part of SPARQL 1.1 begins that the grammar of this project leaves out, with the
+-- texts by which they are named. What stands only further inside of such a part, as NOT, AS, BY and `)`, is not here.
 -- SPARQL 1.1 Query, section 19.8, and SPARQL 1.1 Update, section 3.
 use Rattle.std.specs.Prelude.{◌==◌, ℕ, List, [], ◌∷◌, Option, Some, None, find, codes}
 use Rattle.std.specs.Cmp.Lexicographic.{pointwise}

@@ -1,4 +1,4 @@
-// The words of SPARQL that this project names where a query has one that it does not support.
+// The words and signs that this project names where a query has one that it does not support.
 ghost use Rattle.std.specs.Prelude.{◌==◌, ◌≡◌, find};
 ghost use Rattle.std.specs.Cmp.Lexicographic.{pointwise};
 ghost use Rattle.std.specs.Str.{str_eq_ignore_ascii_case};
@@ -7,8 +7,9 @@ ghost use Rattle.query_grammar.specs.Words.{keywords, quotes, signs, unsupported
 
 use query_tokens::{Token, TokenKind};
 
-/// A word, a sign or another token of SPARQL 1.1 that the grammar of this project leaves out. SELECT and
-/// `*` stand in the grammar, but at one place each.
+/// A word, a sign or another token with which a part of SPARQL 1.1 begins that the grammar of this project
+/// leaves out. What stands only further inside of such a part, as `NOT`, `AS`, `BY` and `)`, is not among them.
+/// SELECT and `*` stand in the grammar, but at one place each.
 #[derive(Clone, Copy, Debug, PartialEq, Eq)]
 pub enum Word {
     /// `ADD`
@@ -226,8 +227,8 @@ fn quotation_marks(text: &[u8]) -> Option<Word>
         .find(|word| text == word.text().as_bytes())
 }
 
-/// The word of SPARQL 1.1 that a token is, among those that this project leaves out; `None` where the
-/// token is no such word.
+/// The word or sign that a token is, among those with which a part of SPARQL 1.1 begins that this project
+/// leaves out; `None` where the token is none of them.
 #[tactic(auto, unfolding(crate::specs::Words::unsupported_word))]
 pub fn unsupported_word(token: &Token) -> Option<Word>
     ensures { result ≡ unsupported_word (shown token.now) }

@@ -11,7 +11,7 @@ use crate::runs;
 use std::marker::Model;
 
 /// A row that borrows its bytes. It is seen as the list of its numbers: at least one, strictly ascending,
-/// each below the number of columns that it was checked for.
+/// each below 2^32 − 1. That they lie below the columns is told by [`check`] and [`view`].
 #[derive(Debug, Drop)]
 pub struct RowRef<'a> {
     form: RowForm,

@@ -3,10 +3,12 @@ use query_grammar::Word;
 use std::alloc::AllocError;
 
 /// Why a text is no query. `at` is the byte offset, from 0, of the token that has the fault; the end of the
-/// text counts as a last token at the text's length.
+/// text counts as a last token at the text's length. Where the text is not UTF-8, no token is looked at: the
+/// fault is `Syntax` at the first byte that is not UTF-8, whatever stands before.
 #[derive(Clone, Copy, Debug, PartialEq, Eq)]
 pub enum QueryFault {
-    /// The grammar does not go on with this token, or the text is UTF-8 only before this byte.
+    /// The grammar does not go on with this token, or the text ends here and the query does not, or the text
+    /// is UTF-8 only before this byte.
     Syntax { at: usize },
     /// The grammar does not go on with this token, which is a word of SPARQL that is not supported.
     Unsupported { at: usize, word: Word },

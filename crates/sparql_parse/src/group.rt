@@ -136,6 +136,7 @@ impl Body {
     {
         match self.groups.pop() {
             Some(inner) => self.close_in(inner),
+            // Never comes: the tokens are a query, so each `}` has its `{` before it.
             None => Ok(()),
         }
     }
@@ -160,6 +161,7 @@ impl Body {
         requires { (body_in self.old).next + 1 < 2 ^ 16 }
         ensures { OnOk result (body_in self.new ≡ record { groups = in_innermost pattern (body_in self.old).groups; next = (body_in self.old).next + 1; whole = (body_in self.old).whole }) }
     {
+        // The other case never comes: the tokens are a query, so each triple pattern stands in a group.
         if let Some(mut group) = self.groups.pop() {
             group.block.push(pattern)?;
             self.groups.push(group)?;

@@ -23,6 +23,7 @@ pub(crate) fn number(scope: &Naming, token: Token<'_>) -> Var
 {
     match scope.number(variable_name(token)) {
         Some(number) => Var(number as u8),
+        // Never comes: a query is translated once the names of all its tokens are kept.
         None => Var(0),
     }
 }
@@ -35,6 +36,7 @@ fn namespace<'s>(scope: &'s Naming, token: Token<'_>) -> &'s str
 {
     match scope.namespace(prefix(token)) {
         Some(iri) => iri,
+        // Never comes: a token whose prefix is not declared before it has a fault, and is not kept.
         None => "",
     }
 }
