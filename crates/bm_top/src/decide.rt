@@ -58,7 +58,7 @@ impl From<AllocError> for Refusal {
 
 /// The text that answers a query over data, or why there is none: the first bad line, and then the query.
 pub(crate) fn decide(alloc: Global, data: Vec<u8>, query: &[u8]) -> Result<Vec<u8>, Refusal>
-    ensures { IsDecided (decided data.items query.now) result }
+    ensures { IsDecided (decided «data».items query.now) result }
 {
     let triples = read_data(alloc, data)?;
     let query = parse_query(alloc, query)?;

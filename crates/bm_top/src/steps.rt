@@ -43,8 +43,8 @@ fn perform_ask<'a, W: World>(
     world: &mut W,
 ) -> Ending<'a>
     ensures step { Step (W.told world.old) (W.told world.new) (λ m n.
-        EndsSo (request_verdict m.files (ask data.now query.now)) result m n) }
-    ensures reason { HasReason (λ files. request_verdict files (ask data.now query.now)) (W.told world.old)
+        EndsSo (request_verdict m.files (ask «data».now query.now)) result m n) }
+    ensures reason { HasReason (λ files. request_verdict files (ask «data».now query.now)) (W.told world.old)
         (W.read_faults world.old) (W.read_faults world.new) (W.write_faults world.old) (W.write_faults world.new) result }
     ensures say_faults_stay { W.say_faults world.new ≡ W.say_faults world.old }
 {
@@ -62,8 +62,8 @@ fn ask_of_data<'a, W: World>(
     world: &mut W,
 ) -> Ending<'a>
     ensures step { Step (W.told world.old) (W.told world.new) (λ m n.
-        EndsSo (query_verdict m.files data.items query.now) result m n) }
-    ensures reason { HasReason (λ files. query_verdict files data.items query.now) (W.told world.old)
+        EndsSo (query_verdict m.files «data».items query.now) result m n) }
+    ensures reason { HasReason (λ files. query_verdict files «data».items query.now) (W.told world.old)
         (W.read_faults world.old) (W.read_faults world.new) (W.write_faults world.old) (W.write_faults world.new) result }
     ensures say_faults_stay { W.say_faults world.new ≡ W.say_faults world.old }
 {
@@ -80,8 +80,8 @@ fn print_decided<'a, W: World>(
     query: &[u8],
     world: &mut W,
 ) -> Ending<'a>
-    ensures step { Step (W.told world.old) (W.told world.new) (EndsSo (decided data.items query.now) result) }
-    ensures reason { HasReason (λ files. decided data.items query.now) (W.told world.old)
+    ensures step { Step (W.told world.old) (W.told world.new) (EndsSo (decided «data».items query.now) result) }
+    ensures reason { HasReason (λ files. decided «data».items query.now) (W.told world.old)
         (W.read_faults world.old) (W.read_faults world.new) (W.write_faults world.old) (W.write_faults world.new) result }
     ensures say_faults_stay { W.say_faults world.new ≡ W.say_faults world.old }
 {
