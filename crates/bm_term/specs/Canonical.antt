@@ -32,7 +32,8 @@ IsLabel label = IsDottedName is_nt_label_first is_nt_pn_chars label
 abbrev pub IsLowerTag : List ℕ → Type 0
 IsLowerTag tag = IsLanguageTag is_lower_letter is_lower_alphanumeric tag
 
--- which characters a term may have
+-- Which characters a term may have. An IRI is any text of IRICHARs, also a relative one and the empty one; a datatype is
+-- any of them but xsd:string, also rdf:langString; and a tag is any one of the grammar, in BCP 47 or not.
 abbrev pub IsTerm : RdfTerm → Type 0
 IsTerm (iri chars) = IsTrue (list_all is_irichar chars)
 IsTerm (blank label) = IsLabel label

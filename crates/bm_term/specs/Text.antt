@@ -31,6 +31,10 @@ after_some p (c ∷ cs) = if p c then Some (after_run p cs) else None
 abbrev pub IsRun : (ℕ → Bool) → List ℕ → Type 0
 IsRun p cs = (0 < length cs) × IsTrue (list_all p cs)
 
+-- the text begins with this front
+abbrev pub HasFront : List ℕ → List ℕ → Type 0
+HasFront text front = (rest : List ℕ) × (text ≡ front ++ rest)
+
 -- the text ends with the rest
 abbrev pub HasRest : List ℕ → List ℕ → Type 0
 HasRest text rest = (front : List ℕ) × (text ≡ front ++ rest)

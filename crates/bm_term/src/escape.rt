@@ -41,7 +41,7 @@ pub fn echar_value(letter: char) -> Option<char>
     }
 }
 
-/// The lexical form that the body of a canonical literal spells.
+/// The lexical form that the body of a canonical literal spells. `Err` only where memory runs out.
 pub fn unescape(alloc: Global, body: &[u8]) -> Result<Vec<u8>, AllocError>
     requires { IsBody body.now }
     ensures form { IfOk result (λ form. (lexical : List ℕ) → SpellsForm body.now lexical → form.items ≡ encode_utf8_all lexical) }

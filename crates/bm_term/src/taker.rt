@@ -13,7 +13,8 @@ pub trait Taker {
     /// What is kept.
     ghost kept: { Self → Kept };
 
-    /// Takes one triple. An `Err` changes nothing.
+    /// Takes one triple, whose subject is an IRI or a blank node and whose predicate is an IRI. An `Err`,
+    /// which comes only where memory runs out, changes nothing.
     fn take(&mut self, triple: Triple) -> Result<(), AllocError>
         requires { IsRdfTriple triple }
         ensures ok { OnOk result (kept self.new ≡ after (kept self.old) triple) }

@@ -32,7 +32,7 @@ impl Model for Term {
 }
 
 impl Term {
-    /// A copy of a term.
+    /// A copy of a term. `Err` only where memory runs out.
     pub fn copy_of(alloc: Global, term: TermRef<'_>) -> Result<Term, AllocError>
         ensures { IfOk result (λ copy. copy ≡ text_of term.entry) }
     {

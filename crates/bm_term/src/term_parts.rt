@@ -2,10 +2,15 @@
 /// language tag, or that has another datatype.
 #[derive(Clone, Copy, PartialEq, Eq, Debug)]
 pub enum TermKind {
+    /// `<iri>`
     Iri,
+    /// `_:label`
     Blank,
+    /// `"form"`: the datatype is xsd:string.
     Plain,
+    /// `"form"@tag`: the datatype is rdf:langString.
     Tagged,
+    /// `"form"^^<iri>`: the datatype is another one than xsd:string.
     Typed,
 }
 

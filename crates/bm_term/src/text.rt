@@ -25,7 +25,7 @@ pub fn after_char(text: &str, expected: char) -> Option<&str>
     }
 }
 
-/// The text before a rest of it.
+/// The text before a rest of it: the text ends with the rest.
 pub fn before<'a>(text: &'a str, rest: &str) -> &'a str
     requires { HasRest (chars text.now) (chars rest.now) }
     ensures { chars result.now ≡ before (chars text.now) (chars rest.now) }

@@ -8,6 +8,7 @@ use Rattle.nt_read.specs.LineReading.{LineReading, bad, nothing, spelled, line_r
 use Rattle.nt_read.specs.Lines.{lines_of, is_bad, first_bad, first_bad_from, IsFirstBadLine}
 use Rattle.nt_read.specs.Line.{IsBadLine}
 use Rattle.nt_read.specs.Feeding.{with_bytes}
+use Rattle.nt_read.proofs.Cuts.{AreLines-lines_of}
 use Rattle.nt_read.proofs.LineLaws.{bad_is_read, read_is_bad}
 
 -- pieces one after another are fed as one
@@ -110,12 +111,13 @@ first_bad-found bytes n = (
     before = found.before;
     line = found.line;
     behind = found.behind;
-    cut = found.cut;
+    cut = (AreLines-lines_of bytes (found.before ++ found.line ∷ found.behind)).1 (sym found.cut);
     number = omega (arith, found.place);
     none_before = none_is_bad found.before found.none_before;
     it_is_bad = read_is_bad found.line found.it_is_bad;
   },
-  λ is. rw is.cut (first_found 1 is.before is.line is.behind (none_is_read_bad is.before is.none_before) (bad_is_read is.line is.it_is_bad) ∙ ap Some (omega (arith, is.number))),
+  λ is. let cut : is.before ++ is.line ∷ is.behind ≡ lines_of bytes = (AreLines-lines_of bytes (is.before ++ is.line ∷ is.behind)).0 is.cut in
+      rw (← cut) (first_found 1 is.before is.line is.behind (none_is_read_bad is.before is.none_before) (bad_is_read is.line is.it_is_bad) ∙ ap Some (omega (arith, is.number))),
 )
 
 pub first_bad-none : (bytes : List ℕ) → (first_bad bytes ≡ None) ↔ All (λ line. ¬ IsBadLine line) (lines_of bytes)

@@ -191,6 +191,7 @@ spelled_is_rdf line triple s =
     subst IsRdfTriple (sym s.is) (record {
       subject = subject_is_node s.subject (chars line) t.after_subject t.subject_is;
       predicate = predicate_is_iri s.predicate t.after_subject t.after_predicate t.predicate_is;
+      object = record { term = s.object; is = object_is_term s.object t.after_predicate t.after_object t.object_is; spelled = refl };
     })
 
 -- the terms of a statement are terms

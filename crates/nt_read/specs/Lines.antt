@@ -73,7 +73,7 @@ pub record IsFirstBadLine (bytes : List ℕ) (n : ℕ) : Type 0 where
   pub before : List (List ℕ)
   pub line : List ℕ
   pub behind : List (List ℕ)
-  pub cut : lines_of bytes ≡ before ++ line ∷ behind
+  pub cut : AreLines bytes (before ++ line ∷ behind)
   pub number : n ≡ length before + 1
   pub none_before : All (λ line. ¬ IsBadLine line) before
   pub it_is_bad : IsBadLine line

@@ -15,12 +15,15 @@ use std::alloc::Global;
 /// Why a line is not read: it is not in the grammar, or memory ran out.
 #[derive(Clone, Copy, PartialEq, Eq, Debug)]
 pub enum LineFault {
+    /// The line is not in the grammar.
     Bad,
+    /// Memory ran out.
     Memory,
 }
 
 /// The triple that a line spells, or `None` where it spells nothing. The line is without its line end.
-/// `Bad` comes exactly where the line is not in the grammar; bytes that are not UTF-8 are not in it.
+/// `Memory` comes only where memory runs out; else `Bad` comes exactly where the line is not in the
+/// grammar, and bytes that are not UTF-8 are not in it.
 /// N-Triples 1.1, section 7.
 pub fn read_line(alloc: Global, line: &[u8]) -> Result<Option<Triple>, LineFault>
     ensures reads { IsReadAs (line_reading line.now) result }

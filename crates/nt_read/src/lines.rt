@@ -11,8 +11,10 @@ use bm_term::Taker;
 use memchr::memchr2;
 use std::alloc::{AllocError, Global};
 
+/// LF, which ends a line, alone or behind a CR.
 pub const LINE_FEED: u8 = b'\n';
 
+/// CR, which ends a line, alone or with an LF behind it.
 pub const CARRIAGE_RETURN: u8 = b'\r';
 
 /// Why a stream was not read.
@@ -94,7 +96,7 @@ fn behind_line_end(bytes: &[u8]) -> &[u8]
                 rest
             }
         }
-        [] => bytes,
+        [] => unreachable!(),
     }
 }
 

@@ -1,4 +1,6 @@
--- STRING_LITERAL1 and STRING_LITERAL2 of SPARQL 1.1 Query, section 19.8, with the escapes UCHAR of section 19.2.
+-- STRING_LITERAL1 and STRING_LITERAL2 of SPARQL 1.1 Query, section 19.8, with the escapes UCHAR of section 19.2. Here such
+-- an escape stands for a character of the string or IRI. Section 19.2 replaces it before tokens are read: there
+-- "\u005Cn" is a line feed, and here a backslash and an n.
 use Rattle.std.specs.Prelude.{◌≡◌, ℕ, IsTrue, Option, List, [], ◌∷◌}
 use Rattle.bm_term.specs.Text.{after_char}
 use Rattle.rdf_escapes.specs.Strings.{is_quote, IsString}

@@ -23,7 +23,8 @@ abbrev pub IsBlankLabel : List ℕ → Type 0
 IsBlankLabel text =
     (label : List ℕ) × IsDottedName is_sparql_label_first is_sparql_pn_chars label × (text ≡ low_line ∷ colon ∷ label)
 
--- the text is of the rule of this kind; no text is Bad
+-- The text is of the rule of this kind; no text is Bad. A run of letters is one word, so words have to be parted by white
+-- space or a comment: SELECTDISTINCT is one word.
 abbrev pub IsToken : TokenKind → List ℕ → Type 0
 IsToken Iri text = IsIriref text
 IsToken Prefix text = IsPrefix text

@@ -15,9 +15,10 @@ use crate::token_list::TokenList;
 use bm_term::before;
 use std::alloc::{AllocError, Global};
 
-/// The tokens of a query in order. At each place the token is the longest text that a rule of its kind
-/// allows (SPARQL 1.1 Query, section 19.8); white space and comments are dropped. Where no token begins,
-/// the rest of the source is one last token of kind `Bad`.
+/// The tokens of a query in order; its text is UTF-8. At each place the token is the longest text that a
+/// rule of its kind allows (SPARQL 1.1 Query, section 19.8); white space and comments are dropped. Where
+/// no token begins, the rest of the source is one last token of kind `Bad`. `Err` only where memory runs
+/// out.
 pub fn tokens<'a>(alloc: Global, text: &'a [u8]) -> Result<TokenList<'a>, AllocError>
     requires { IsUtf8 text.now }
     ensures tokens { IfOk result (AreTokens text.now) }

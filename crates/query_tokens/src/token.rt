@@ -1,6 +1,6 @@
 // What a token is.
 
-/// The kinds of tokens, each a rule of SPARQL 1.1 Query, section 19.8.
+/// The kinds of tokens, most of them a rule of SPARQL 1.1 Query, section 19.8.
 #[derive(Clone, Copy, Debug, PartialEq, Eq)]
 pub enum TokenKind {
     /// `IRIREF`, with its escapes by number.

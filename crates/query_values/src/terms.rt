@@ -16,7 +16,8 @@ const XSD_BOOLEAN: &str = "http://www.w3.org/2001/XMLSchema#boolean";
 
 const RDF_TYPE: &str = "http://www.w3.org/1999/02/22-rdf-syntax-ns#type";
 
-/// The term of an IRI.
+/// The term of an IRI, all whose characters may stand in one (`IRICHAR`). `Err` only where memory runs
+/// out.
 pub fn iri_term(alloc: Global, iri: &str) -> Result<Term, AllocError>
     requires { AreIriChars (chars iri.now) }
     ensures { IfOk result (λ term. term ≡ canonical_text (iri_with (chars iri.now))) }
@@ -26,14 +27,15 @@ pub fn iri_term(alloc: Global, iri: &str) -> Result<Term, AllocError>
     Ok(Term::from_canonical(text.into_bytes()))
 }
 
-/// What the word `a` stands for: rdf:type.
+/// What the word `a` stands for: rdf:type. `Err` only where memory runs out.
 pub fn type_term(alloc: Global) -> Result<Term, AllocError>
     ensures { IfOk result (λ term. term ≡ canonical_text type_iri) }
 {
     iri_term(alloc, RDF_TYPE)
 }
 
-/// The literal of a string alone.
+/// The literal of a string alone. The token is one that `tokens` gave and is not `Bad`; of one of another
+/// kind than `Quoted` nothing useful is answered. `Err` only where memory runs out.
 pub fn plain_term(alloc: Global, string: Token<'_>) -> Result<Term, AllocError>
     requires { IsSpelled (shown string) }
     ensures { IfOk result (λ term. term ≡ canonical_text (plain_literal (shown string.entry))) }
@@ -43,7 +45,8 @@ pub fn plain_term(alloc: Global, string: Token<'_>) -> Result<Term, AllocError>
     Ok(Term::from_canonical(text.into_bytes()))
 }
 
-/// The literal of a string with a language tag, which is put in lower case.
+/// The literal of a string with a language tag, which is put in lower case. The string is as for
+/// `plain_term`, and the other token is a `Tag` that `tokens` gave. `Err` only where memory runs out.
 pub fn tagged_term(alloc: Global, string: Token<'_>, tag: Token<'_>) -> Result<Term, AllocError>
     requires string { IsSpelled (shown string) }
     requires tag { IsSpelled (shown tag) }
@@ -58,7 +61,8 @@ pub fn tagged_term(alloc: Global, string: Token<'_>, tag: Token<'_>) -> Result<T
 }
 
 /// The literal of a string with the IRI of a datatype. One of xsd:string is the literal of the string
-/// alone.
+/// alone. The string is as for `plain_term`, and all characters of the datatype may stand in an IRI
+/// (`IRICHAR`). `Err` only where memory runs out.
 #[tactic(auto, unfolding(bm_term::specs::Canonical::literal_of))]
 pub fn typed_term(alloc: Global, string: Token<'_>, datatype: &str) -> Result<Term, AllocError>
     requires string { IsSpelled (shown string) }
@@ -74,7 +78,9 @@ pub fn typed_term(alloc: Global, string: Token<'_>, datatype: &str) -> Result<Te
     Ok(Term::from_canonical(text.into_bytes()))
 }
 
-/// The literal of a number: its text, with the datatype of its kind.
+/// The literal of a number: its text, with the datatype of its kind. The token is one that `tokens` gave
+/// and is not `Bad`; of one that is no number nothing useful is answered. `Err` only where memory runs
+/// out.
 pub fn number_term(alloc: Global, token: Token<'_>) -> Result<Term, AllocError>
     requires { IsSpelled (shown token) }
     ensures { IfOk result (λ term. term ≡ canonical_text (number_literal (shown token.entry))) }
@@ -82,7 +88,8 @@ pub fn number_term(alloc: Global, token: Token<'_>) -> Result<Term, AllocError>
     literal_term(alloc, text_of(token), number_type(token.kind))
 }
 
-/// The literal of `true` or `false`, in lower case.
+/// The literal of `true` or `false`, in lower case. The token is one that `tokens` gave and is not `Bad`;
+/// of one that is no such word nothing useful is answered. `Err` only where memory runs out.
 pub fn boolean_term(alloc: Global, token: Token<'_>) -> Result<Term, AllocError>
     requires { IsSpelled (shown token) }
     ensures { IfOk result (λ term. term ≡ canonical_text (boolean_literal (shown token.entry))) }

@@ -24,7 +24,7 @@ impl CharClass for NoColon {
     }
 }
 
-/// The characters of a token.
+/// The characters of a token that `tokens` gave and that is not `Bad`.
 pub(crate) fn text_of<'a>(token: Token<'a>) -> &'a str
     requires { IsSpelled (shown token) }
     ensures { result.now ≡ token.entry.text.now }
@@ -51,7 +51,8 @@ fn from_colon(text: &str) -> &str
     after_run(text, NoColon)
 }
 
-/// The IRI that an IRI in brackets spells, its escapes undone.
+/// The IRI that an IRI in brackets spells, its escapes undone. The token is one that `tokens` gave and is
+/// not `Bad`; of one of another kind nothing useful is answered. `Err` only where memory runs out.
 #[tactic(auto, unfolding(crate::specs::Values::iri_of))]
 pub fn iri(alloc: Global, token: Token<'_>) -> Result<String, AllocError>
     requires { IsSpelled (shown token) }
@@ -62,7 +63,8 @@ pub fn iri(alloc: Global, token: Token<'_>) -> Result<String, AllocError>
     Ok(iri)
 }
 
-/// The prefix of a prefixed name, or of a prefix with its colon: what stands before the colon.
+/// The prefix of a prefixed name, or of a prefix with its colon: what stands before the colon. The token
+/// is one that `tokens` gave and is not `Bad`; of one of another kind nothing useful is answered.
 #[tactic(auto, unfolding(crate::specs::Values::prefix_of))]
 pub fn prefix<'a>(token: Token<'a>) -> &'a str
     requires { IsSpelled (shown token) }
@@ -73,7 +75,8 @@ pub fn prefix<'a>(token: Token<'a>) -> &'a str
 }
 
 /// The IRI of a prefixed name: the namespace of its prefix, and the local name, in which a backslash
-/// and what stands behind it are that alone.
+/// and what stands behind it are that alone. The token is one that `tokens` gave and is not `Bad`; of one
+/// of another kind nothing useful is answered. `Err` only where memory runs out.
 #[tactic(auto, unfolding(crate::specs::Values::local_of))]
 pub fn prefixed_iri(alloc: Global, namespace: &str, token: Token<'_>) -> Result<String, AllocError>
     requires { IsSpelled (shown token) }
@@ -112,7 +115,8 @@ fn is_no_backslash(c: char) -> bool
     c != '\\'
 }
 
-/// The bytes of a variable's name, without its mark.
+/// The bytes of a variable's name, without its mark. Of a token of another kind nothing useful is
+/// answered.
 #[tactic(auto, unfolding(crate::specs::Values::name_of))]
 pub fn variable_name<'a>(token: Token<'a>) -> &'a [u8]
     ensures { result.now ≡ name_of (shown token.entry) }

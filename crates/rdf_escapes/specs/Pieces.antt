@@ -11,10 +11,6 @@ IsOf {V} R text = (value : V) × R text value
 abbrev pub BeginsWith : {V : Type 0} → (List ℕ → V → Type 0) → List ℕ → V → List ℕ → Type 0
 BeginsWith R text value rest = (front : List ℕ) × R front value × (text ≡ front ++ rest)
 
--- the text begins with this front
-abbrev pub HasFront : List ℕ → List ℕ → Type 0
-HasFront text front = (rest : List ℕ) × (text ≡ front ++ rest)
-
 -- pieces of the rule in a row, whatever they stand for
 abbrev pub ArePieces : (List ℕ → ℕ → Type 0) → List ℕ → Type 0
 ArePieces R text = IsOf (Star R) text

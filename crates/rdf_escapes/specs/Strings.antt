@@ -1,5 +1,7 @@
 -- The characters of a string between its marks. N-Triples 1.1, section 7, rule STRING_LITERAL_QUOTE, with the mark '"';
--- SPARQL 1.1 Query, section 19.8, rules STRING_LITERAL1 and STRING_LITERAL2, with the marks "'" and '"'.
+-- SPARQL 1.1 Query, section 19.8, rules STRING_LITERAL1 and STRING_LITERAL2, with the marks "'" and '"'. Here an escape by
+-- a number stands for a character of the string, as one in an IRI does for one of the IRI. Section 19.2 of SPARQL replaces
+-- such escapes before tokens are read: there "\u005Cn" is a line feed, and here a backslash and an n.
 use Rattle.std.specs.Prelude.{◌≡◌, ℕ, Bool, ◌&&◌, ◌||◌, ◌==◌, not, ◌⊎◌, IsTrue, List, [], ◌∷◌, ◌++◌}
 use Rattle.bm_term.specs.Marks.{line_feed, carriage_return, quotation_mark, apostrophe, backslash}
 use Rattle.bm_term.specs.Classes.{is_scalar}

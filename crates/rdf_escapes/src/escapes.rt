@@ -71,7 +71,8 @@ fn uchar_number(letter: char, text: &str) -> Option<(u32, &str)>
     }
 }
 
-// UCHAR, behind its backslash and this letter.
+/// `UCHAR`, behind its backslash and this letter: the character, and the text after it. `None` where no
+/// such escape stands there, or where its number is no character.
 #[tactic(auto, unfolding(crate::specs::Reading::read_uchar))]
 pub fn uchar(letter: char, text: &str) -> Option<(char, &str)>
     ensures chars { option_map (λ p. (p.0, chars p.1.now)) result ≡ read_uchar letter (chars text.now) }
@@ -82,7 +83,8 @@ pub fn uchar(letter: char, text: &str) -> Option<(char, &str)>
     Some((c, rest))
 }
 
-// ECHAR | UCHAR, behind the backslash.
+/// `ECHAR | UCHAR`, behind the backslash: the character, and the text after it. `None` where no such
+/// escape stands there.
 #[tactic(auto, unfolding(crate::specs::Reading::read_escape))]
 pub fn escape(text: &str) -> Option<(char, &str)>
     ensures chars { option_map (λ p. (p.0, chars p.1.now)) result ≡ read_escape (chars text.now) }

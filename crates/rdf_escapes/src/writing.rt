@@ -2,7 +2,8 @@
 ghost use Rattle.std.specs.Prelude.{◌≡◌, ◌++◌, OnOk, OnErr, string_bytes};
 ghost use Rattle.std.specs.Str.{chars, encode_utf8_all};
 ghost use Rattle.bm_term.specs.Canonical.{escaped};
-ghost use Rattle.rdf_escapes.specs.Pieces.{HasFront, values};
+ghost use Rattle.bm_term.specs.Text.{HasFront};
+ghost use Rattle.rdf_escapes.specs.Pieces.{values};
 ghost use Rattle.rdf_escapes.specs.Reading.{iri_piece, string_piece};
 
 use crate::iris::iri_piece;

@@ -16,8 +16,8 @@ loop-c-preserved c = (
       (c.in_ok-push.ensures.bytes ∙ ap (λ xs. string_bytes c.loop-c.out ++ xs) (ap encode_utf8 c.to_ascii_lowercase.ensures.value ∙ sym (append-nil _))) c.in-Some.ensures.chars c.loop-c.invariant.1,
 )
 
-pub returns : goal.returns
-returns c =
+pub returns-clause-ok : goal.returns-clause-ok
+returns-clause-ok c =
     walk_end (map to_ascii_lowercase) (λ c. to_ascii_lowercase c ∷ []) refl (string_bytes c.loop-c.out) (chars c.loop-c.rest.now)
     (string_bytes c.args.out.now ++ encode_utf8_all (map to_ascii_lowercase (chars c.args.text.now)))
     c.in_default.ensures.chars c.loop-c.invariant.1

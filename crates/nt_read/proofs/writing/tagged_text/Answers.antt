@@ -14,4 +14,4 @@ returns c =
     rw c.into_bytes.ensures.value
     (tagged_bytes lexical (map to_ascii_lowercase (chars c.args.tag.now)) (string_bytes c.push_string.new.out) (string_bytes c.push.new.self) (string_bytes c.push_lower.new.out)
     (c.in_ok-push_string.ensures ∙ ap (λ xs. xs ++ canonical_text (plain lexical)) c.in_ok-out.ensures.bytes)
-    c.in_ok-push.ensures.bytes c.in_ok-push_lower.ensures)
+    c.in_ok-push.ensures.bytes c.in_ok-push_lower.ensures.ok)

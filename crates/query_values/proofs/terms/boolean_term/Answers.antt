@@ -22,7 +22,7 @@ returns c =
     let text = chars c.text_of.result.now in
     let lower = map to_ascii_lowercase text in
     let lexical : chars c.as_str.result.now ≡ map to_ascii_lowercase (chars c.args.token.text.now) =
-    ap chars (c.as_str.ensures.value ∙ c.in_ok-push_lower.ensures ∙ ap (λ xs. xs ++ encode_utf8_all lower) c.new-lexical.ensures.bytes)
+    ap chars (c.as_str.ensures.value ∙ c.in_ok-push_lower.ensures.ok ∙ ap (λ xs. xs ++ encode_utf8_all lower) c.new-lexical.ensures.bytes)
     ∙ chars-encodes lower (lower_characters text (scalars-chars c.text_of.result.now c.text_of.utf8))
     ∙ ap (λ xs. map to_ascii_lowercase (chars xs)) c.text_of.ensures in
     rw (lexical, xsd_boolean-chars) at c.literal_term.ensures
