@@ -185,7 +185,7 @@ fn term(alloc: Global, found: FoundTerm<'_>) -> Result<Term, AllocError>
     Ok(Term::from_canonical(text))
 }
 
-/// The triple that is found in a line. `Err` only where memory runs out.
+/// The triple that `statement` found in a line. `Err` only where memory runs out.
 pub fn triple(alloc: Global, found: FoundTriple<'_>) -> Result<Triple, AllocError>
     requires texts { AreFoundTexts found }
     requires terms { AreTerms found }

@@ -43,7 +43,7 @@ impl<'a> TokenList<'a> {
         self.tokens.is_empty()
     }
 
-    /// The i-th token, from 0.
+    /// The i-th token, from 0: there are more than i.
     pub fn get(&self, i: usize) -> &Token<'a>
         requires { i < length self.now }
         ensures { slice_get self.now i ≡ Some (shown result.now) }
