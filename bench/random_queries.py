@@ -1,0 +1,189 @@
+#!/usr/bin/env python3
+"""Asks the program random queries over random data, and compares what it prints with an evaluator of its own.
+
+    bench/random_queries.py PROGRAM [COUNT [SEED]]
+
+PROGRAM is the built `bitmat`. Each of COUNT rounds (1000 where none is said) makes some N-Triples and a query: groups,
+nested and OPTIONAL ones, blocks with `;` and `,`, terms in several spellings, `*` or variables, DISTINCT or not. The
+evaluator here goes by the query's tree, from which its text was made, so it shares nothing with the program: neither a
+parser nor an algebra. The first difference is printed whole and ends the run with status 1."""
+import os
+import random
+import subprocess
+import sys
+import tempfile
+
+XSD = "http://www.w3.org/2001/XMLSchema#"
+NODES = ["<urn:a>", "<urn:b>", "_:x"]
+PREDICATES = ["<urn:p>", "<urn:q>"]
+NUMBER, TRUE = f'"5"^^<{XSD}integer>', f'"true"^^<{XSD}boolean>'
+LITERALS = ['"1"', '"a\\tb"', '"x"@en', NUMBER, TRUE]
+NAMES = ["x", "y", "z", "w"]
+
+# other spellings in a query, where `xsd:` and `u:` are declared
+SPELLINGS = {
+    '"1"': ['"1"', "'1'", '"1"^^xsd:string', '"\\u0031"'],
+    '"a\\tb"': ['"a\\tb"', '"a\tb"', "'a\\u0009b'"],
+    '"x"@en': ['"x"@EN', "'x'@en"],
+    NUMBER: ["5", "'5'^^xsd:integer", NUMBER],
+    TRUE: ["true", "TRUE", '"true"^^xsd:boolean'],
+}
+
+
+def make_data(pick):
+    """A set of triples, and lines that spell them, some twice."""
+    triples = {
+        (pick.choice(NODES), pick.choice(PREDICATES), pick.choice(NODES + LITERALS)) for _ in range(pick.randrange(2, 16))
+    }
+    lines = [" ".join(triple) + " .\n" for triple in sorted(triples) for _ in range(pick.choice([1, 1, 1, 2]))]
+    pick.shuffle(lines)
+    return triples, "".join(lines)
+
+
+def make_node(pick, terms, variables):
+    """A variable as its name, or a term as its text; a blank node stands in data alone."""
+    if pick.random() < variables:
+        return "?" + pick.choice(NAMES)
+    return pick.choice([term for term in terms if not term.startswith("_:")])
+
+
+def make_block(pick):
+    return [
+        (make_node(pick, NODES, 0.85), make_node(pick, PREDICATES, 0.3), make_node(pick, NODES + LITERALS, 0.85))
+        for _ in range(pick.choice([1, 1, 2, 2, 3]))
+    ]
+
+
+def make_group(pick, depth):
+    """A list of parts, each with its kind: a block, an OPTIONAL group or a nested one. No two blocks stand in a row."""
+    group = []
+    for _ in range(pick.choice([0, 1, 1, 2, 2, 3])):
+        kind = pick.choices(["block", "OPTIONAL", "nested"], [50, 35, 15])[0] if depth else "block"
+        if kind != "block":
+            group.append((kind, make_group(pick, depth - 1)))
+        elif not group or group[-1][0] != "block":
+            group.append((kind, make_block(pick)))
+    return group
+
+
+def node_text(pick, node):
+    if node.startswith("?"):
+        return pick.choice("?$") + node[1:]
+    if node.startswith("<urn:"):
+        return pick.choice([node, "u:" + node[5:-1]])
+    return pick.choice(SPELLINGS[node])
+
+
+def block_text(pick, block):
+    text, before = "", None
+    for triple in block:
+        subject, predicate, obj = (node_text(pick, node) for node in triple)
+        if before and before[:2] == triple[:2] and pick.random() < 0.8:
+            text += f", {obj}"
+        elif before and before[0] == triple[0] and pick.random() < 0.8:
+            text += f"; {predicate} {obj}"
+        else:
+            text += f"{' . ' if before else ''}{subject} {predicate} {obj}"
+        before = triple
+    return text + pick.choice(["", " ."])
+
+
+def group_text(pick, group):
+    parts = []
+    for kind, part in group:
+        if kind == "block":
+            parts.append(block_text(pick, part))
+        else:
+            word = pick.choice(["OPTIONAL ", "optional"]) if kind == "OPTIONAL" else ""
+            parts.append(word + group_text(pick, part) + pick.choice(["", "", "", " ."]))
+    return "{ " + " ".join(parts) + " }"
+
+
+def names_in(group, names):
+    """The names of the variables, in the order in which they first occur."""
+    for kind, part in group:
+        if kind != "block":
+            names_in(part, names)
+            continue
+        for node in (node for triple in part for node in triple):
+            if node.startswith("?") and node[1:] not in names:
+                names.append(node[1:])
+    return names
+
+
+def solutions(block, triples):
+    """The mappings that make each pattern of the block a triple."""
+    found = [{}]
+    for pattern in block:
+        tried = (matched(mapping, pattern, triple) for mapping in found for triple in triples)
+        found = [mapping for mapping in tried if mapping is not None]
+    return found
+
+
+def matched(mapping, pattern, triple):
+    more = dict(mapping)
+    for node, term in zip(pattern, triple):
+        if node.startswith("?"):
+            if more.setdefault(node[1:], term) != term:
+                return None
+        elif node != term:
+            return None
+    return more
+
+
+def partners(row, others):
+    return [{**row, **other} for other in others if all(other[name] == row[name] for name in row if name in other)]
+
+
+def evaluate(group, triples):
+    rows = [{}]
+    for kind, part in group:
+        others = solutions(part, triples) if kind == "block" else evaluate(part, triples)
+        if kind == "OPTIONAL":
+            rows = [both for row in rows for both in partners(row, others) or [row]]
+        else:
+            rows = [both for row in rows for both in partners(row, others)]
+    return rows
+
+
+def make_round(pick):
+    """Data, a query, and what is to be printed."""
+    triples, data = make_data(pick)
+    group = make_group(pick, 3)
+    star, distinct = pick.random() < 0.4, pick.random() < 0.4
+    named = [pick.choice(NAMES) for _ in range(pick.choice([1, 1, 2, 3]))]
+    columns = names_in(group, []) if star else list(dict.fromkeys(named))
+    query = f"PREFIX u: <urn:other> prefix xsd: <{XSD}>\nPREFIX u: <urn:> # replaces the first\nSELECT "
+    query += "DISTINCT " if distinct else ""
+    query += "*" if star else " ".join(pick.choice("?$") + name for name in named)
+    query += pick.choice([" ", " WHERE "]) + group_text(pick, group)
+    rows = [tuple(row.get(name) for name in columns) for row in evaluate(group, triples)]
+    rows = list(set(rows)) if distinct else rows
+    rows.sort(key=lambda row: [(cell is not None, (cell or "").encode()) for cell in row])
+    lines = ["\t".join("?" + name for name in columns)] + ["\t".join(cell or "" for cell in row) for row in rows]
+    return data, query, "".join(line + "\n" for line in lines), len(rows)
+
+
+def main():
+    program = os.path.abspath(sys.argv[1])
+    count = int(sys.argv[2]) if len(sys.argv) > 2 else 1000
+    pick = random.Random(int(sys.argv[3]) if len(sys.argv) > 3 else 1)
+    rows = 0
+    with tempfile.TemporaryDirectory() as folder:
+        for _ in range(count):
+            data, query, wanted, some = make_round(pick)
+            rows += some
+            for name, text in [("d", data), ("q", query)]:
+                with open(os.path.join(folder, name), "w") as file:
+                    file.write(text)
+            run = subprocess.run([program, "ask", "d", "q", "tsv"], cwd=folder, capture_output=True)
+            if run.returncode or run.stdout.decode() != wanted:
+                got = run.stdout.decode() + run.stderr.decode()
+                print(f"data\n{data}query\n{query}\nwanted\n{wanted}got status {run.returncode}\n{got}")
+                return 1
+    print(f"{count} queries, {rows} rows, no difference")
+    return 0
+
+
+if __name__ == "__main__":
+    sys.exit(main())
