@@ -4,21 +4,21 @@ use Rattle.std.specs.FinMap.{get}
 use Rattle.std.proofs.lemmas.Bool.{le-ltb}
 use Rattle.bm_term.specs.declared.triple.Triple.{Triple}
 use Rattle.bm_term.specs.Graph.{graph_of}
-use Rattle.nt_read.specs.Lines.{first_bad, lines_of, triples_of, SpellTriples, IsFirstBadLine}
+use Rattle.nt_read.specs.Lines.{first_bad, lines_of, triples_of, SpellTriples}
 use Rattle.nt_read.proofs.Cuts.{AreLines-lines_of}
 use Rattle.nt_read.proofs.FirstBad.{first_bad-found, first_bad-none}
 use Rattle.nt_read.proofs.SpelledTriples.{spelled-triples_of}
 use Rattle.alg_model.specs.Answers.{AbstractQuery, answers_to}
 use Rattle.sparql_parse.specs.declared.fault.QueryFault.{QueryFault}
 use Rattle.sparql_parse.specs.Reading.{query_reading}
-use Rattle.sparql_parse.proofs.DenotingLaws.{reading-denotes, denotes-reading, fault-reading}
+use Rattle.sparql_parse.proofs.DenotingLaws.{reading-denotes, denotes-reading, reading-is_fault, fault-reading}
 use Rattle.bm_world.specs.Meanings.{Files, Meanings}
 use Rattle.bm_world.specs.World.{Step}
 use Rattle.bm_top.specs.declared.steps.TheConstants.{MAX_DATA_BYTES, MAX_QUERY_BYTES}
 use Rattle.bm_top.specs.QueryLine.{query_line}
 use Rattle.bm_top.specs.Tsv.{tsv_text}
 use Rattle.bm_top.specs.Run.{IsComplete, Outputs}
-use Rattle.bm_top.specs.Standard.{AreNTriples, IsAnswer, IsRefusal, Asks, Prints}
+use Rattle.bm_top.specs.Standard.{AreNTriples, IsAnswer, IsBadData, IsRefusal, Asks, Prints}
 use Rattle.bm_top.specs.Verdict.{Verdict, answered, refused, bad_line_line, limit_line, within, reading_file, reading, deciding, decided, query_verdict, request_verdict, verdict_at, verdict_of}
 
 -- data without a bad line, and its triples
@@ -55,23 +55,31 @@ answer-decided bytes text printed is =
     ∙ ap (λ ts. answered (answer_text is.query ts)) (sym read.are)
     ∙ ap answered (sym is.is_text)
 
-pub bad_line-decided : (bytes text : List ℕ) (n : ℕ) → IsFirstBadLine bytes n → decided bytes text ≡ refused 2 (bad_line_line n)
-bad_line-decided bytes text n is = decided-by bytes text (Some n) (query_reading text) ((first_bad-found bytes n).1 is) refl
+pub bad_line-decided : (bytes text line : List ℕ) → IsBadData bytes line → decided bytes text ≡ refused 2 line
+bad_line-decided bytes text line is =
+    decided-by bytes text (Some is.number) (query_reading text) ((first_bad-found bytes is.number).1 is.is_bad) refl
+    ∙ ap (refused 2) (sym is.is_line)
 
 pub refusal-decided : (bytes text line : List ℕ) → IsRefusal bytes text line → decided bytes text ≡ refused 3 line
 refusal-decided bytes text line is =
     decided-by bytes text None (Err is.fault) (triples-read bytes is.triples is.are_triples).none (fault-reading text is.fault is.is_fault)
     ∙ ap (refused 3) (sym is.is_line)
 
--- a verdict that is an answer is one of data and a query without faults
-not_answered : (status : ℕ) (line printed : List ℕ) → status ≢ 0 → refused status line ≡ answered printed → ⊥
-not_answered status line printed other e = other (ap (λ (v : Verdict). v.status) e)
+-- a verdict tells what is read by its status
+other-status : (a b : Verdict) → a ≡ b → a.status ≢ b.status → ⊥
+other-status a b e other = other (ap (λ (v : Verdict). v.status) e)
 
-decided-reading : (bytes text printed : List ℕ) (bad : Option ℕ) (reading : Result AbstractQuery QueryFault) → first_bad bytes ≡ bad → query_reading text ≡ reading →
+same-line : (a b : Verdict) → a ≡ b → a.line ≡ b.line
+same-line a b e = ap (λ (v : Verdict). v.line) e
+
+decided-reading : (bytes text : List ℕ) (verdict : Verdict) → decided bytes text ≡ verdict → deciding (first_bad bytes) (lines_of bytes) (query_reading text) ≡ verdict
+decided-reading bytes text verdict e = sym (decided-by bytes text (first_bad bytes) (query_reading text) refl refl) ∙ e
+
+answer-read : (bytes text printed : List ℕ) (bad : Option ℕ) (reading : Result AbstractQuery QueryFault) → first_bad bytes ≡ bad → query_reading text ≡ reading →
     deciding bad (lines_of bytes) reading ≡ answered printed → IsAnswer bytes text printed
-decided-reading bytes text printed (Some line) reading is read e = absurd (not_answered 2 (bad_line_line line) printed (λ e. absurd (omega arith)) e)
-decided-reading bytes text printed None (Err fault) is read e = absurd (not_answered 3 (query_line fault) printed (λ e. absurd (omega arith)) e)
-decided-reading bytes text printed None (Ok query) is read e = record {
+answer-read bytes text printed (Some n) reading is read e = absurd (other-status (refused 2 (bad_line_line n)) (answered printed) e (λ e. absurd (omega arith)))
+answer-read bytes text printed None (Err fault) is read e = absurd (other-status (refused 3 (query_line fault)) (answered printed) e (λ e. absurd (omega arith)))
+answer-read bytes text printed None (Ok query) is read e = record {
   triples = triples_of (lines_of bytes);
   query = query;
   are_triples = read-triples bytes is;
@@ -79,9 +87,34 @@ decided-reading bytes text printed None (Ok query) is read e = record {
   is_text = sym (ap (λ (v : Verdict). v.text) e);
 }
 
+bad_line-read : (bytes line : List ℕ) (bad : Option ℕ) (reading : Result AbstractQuery QueryFault) → first_bad bytes ≡ bad →
+    deciding bad (lines_of bytes) reading ≡ refused 2 line → IsBadData bytes line
+bad_line-read bytes line (Some n) reading is e = record { number = n; is_bad = (first_bad-found bytes n).0 is; is_line = sym (same-line (refused 2 (bad_line_line n)) (refused 2 line) e) }
+bad_line-read bytes line None (Err fault) is e = absurd (other-status (refused 3 (query_line fault)) (refused 2 line) e (λ e. absurd (omega arith)))
+bad_line-read bytes line None (Ok query) is e = absurd (other-status (answered (answer_text query (triples_of (lines_of bytes)))) (refused 2 line) e (λ e. absurd (omega arith)))
+
+refusal-read : (bytes text line : List ℕ) (bad : Option ℕ) (reading : Result AbstractQuery QueryFault) → first_bad bytes ≡ bad → query_reading text ≡ reading →
+    deciding bad (lines_of bytes) reading ≡ refused 3 line → IsRefusal bytes text line
+refusal-read bytes text line (Some n) reading is read e = absurd (other-status (refused 2 (bad_line_line n)) (refused 3 line) e (λ e. absurd (omega arith)))
+refusal-read bytes text line None (Err fault) is read e = record {
+  triples = triples_of (lines_of bytes);
+  fault = fault;
+  are_triples = read-triples bytes is;
+  is_fault = reading-is_fault text fault read;
+  is_line = sym (same-line (refused 3 (query_line fault)) (refused 3 line) e);
+}
+refusal-read bytes text line None (Ok query) is read e = absurd (other-status (answered (answer_text query (triples_of (lines_of bytes)))) (refused 3 line) e (λ e. absurd (omega arith)))
+
 pub decided-answer : (bytes text printed : List ℕ) → decided bytes text ≡ answered printed → IsAnswer bytes text printed
 decided-answer bytes text printed e =
-    decided-reading bytes text printed (first_bad bytes) (query_reading text) refl refl (sym (decided-by bytes text (first_bad bytes) (query_reading text) refl refl) ∙ e)
+    answer-read bytes text printed (first_bad bytes) (query_reading text) refl refl (decided-reading bytes text (answered printed) e)
+
+pub decided-bad_line : (bytes text line : List ℕ) → decided bytes text ≡ refused 2 line → IsBadData bytes line
+decided-bad_line bytes text line e = bad_line-read bytes line (first_bad bytes) (query_reading text) refl (decided-reading bytes text (refused 2 line) e)
+
+pub decided-refusal : (bytes text line : List ℕ) → decided bytes text ≡ refused 3 line → IsRefusal bytes text line
+decided-refusal bytes text line e =
+    refusal-read bytes text line (first_bad bytes) (query_reading text) refl refl (decided-reading bytes text (refused 3 line) e)
 
 -- files that are there and keep their limits are read
 within-goes : (name : List ℕ) (limit : ℕ) (bytes : List ℕ) (next : List ℕ → Verdict) → length bytes ≤ limit → within name limit bytes next ≡ next bytes

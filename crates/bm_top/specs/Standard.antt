@@ -5,7 +5,7 @@ use Rattle.std.specs.Prelude.{◌≡◌, ◌⊎◌, ℕ, ◌≤◌, List, ◌++�
 use Rattle.std.specs.FinMap.{get}
 use Rattle.bm_term.specs.declared.triple.Triple.{Triple}
 use Rattle.bm_term.specs.Graph.{graph_of}
-use Rattle.nt_read.specs.Lines.{AreLines, SpellTriples}
+use Rattle.nt_read.specs.Lines.{AreLines, IsFirstBadLine, SpellTriples}
 use Rattle.alg_model.specs.Answers.{AbstractQuery, answers_to}
 use Rattle.sparql_parse.specs.declared.fault.QueryFault.{QueryFault}
 use Rattle.sparql_parse.specs.Denotes.{Denotes, IsFaultOf}
@@ -15,6 +15,7 @@ use Rattle.bm_top.specs.declared.steps.TheConstants.{MAX_DATA_BYTES, MAX_QUERY_B
 use Rattle.bm_top.specs.Command.{ask, request_of}
 use Rattle.bm_top.specs.QueryLine.{query_line}
 use Rattle.bm_top.specs.Tsv.{tsv_text}
+use Rattle.bm_top.specs.Verdict.{bad_line_line}
 
 -- the bytes are N-Triples: lines between line ends, which spell these triples one after another
 pub record AreNTriples (bytes : List ℕ) (triples : List Triple) : Type 0 where
@@ -29,6 +30,12 @@ pub record IsAnswer (bytes text printed : List ℕ) : Type 0 where
   pub are_triples : AreNTriples bytes triples
   pub denoted : Denotes text query
   pub is_text : printed ≡ tsv_text query (answers_to query (graph_of triples))
+
+-- the line of the first bad line of the data
+pub record IsBadData (bytes line : List ℕ) : Type 0 where
+  pub number : ℕ
+  pub is_bad : IsFirstBadLine bytes number
+  pub is_line : line ≡ bad_line_line number
 
 -- the line of the first fault of a query over data without one
 pub record IsRefusal (bytes text line : List ℕ) : Type 0 where

@@ -227,7 +227,8 @@ first-unread : (tokens : List Lexeme) (state : State) → FirstUnread state toke
 first-unread [] state = all_read (reading_of [] state) (read-nothing state)
 first-unread (token ∷ tokens) state = first-unread-step state token tokens (next_step state (terminal_of token)) refl (first-unread tokens)
 
-is-end : (expect : Expect) → (expect ≡ expects.End) ⊎ (expect ≢ expects.End)
+-- nothing more is expected, or something is
+pub is-end : (expect : Expect) → (expect ≡ expects.End) ⊎ (expect ≢ expects.End)
 is-end expects.End = inl refl
 is-end _ = inr (λ e. cc)
 

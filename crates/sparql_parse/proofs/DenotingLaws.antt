@@ -7,7 +7,6 @@ use Rattle.std.specs.Prelude.{IfOk, IfErr, MatchResult}
 use Rattle.std.specs.Str.{IsUtf8, is_utf8}
 use Rattle.std.specs.Str.Lossy.{utf8_valid_len}
 use Rattle.query_tokens.specs.Token.{Lexeme}
-use Rattle.query_grammar.specs.declared.expect.Expect.{Expect}
 use Rattle.query_grammar.specs.declared.expect.Expect.TheVariants as expects
 use Rattle.query_grammar.specs.declared.expect.State.{State}
 use Rattle.query_grammar.specs.declared.expect.Step.{Step}
@@ -17,7 +16,7 @@ use Rattle.query_grammar.specs.Roles.{Labelled, with_role, tokens_of}
 use Rattle.query_grammar.specs.Expecting.{start, ended, next_step, Reading, read_tokens, StopsAt}
 use Rattle.query_grammar.proofs.Carrying.{Reads, step_of}
 use Rattle.query_grammar.proofs.Runs.{reads-run, run-reads, read-last, read-last-none, reads-split}
-use Rattle.query_grammar.proofs.GrammarLaws.{IsReadToEnd-query, query-run, HasFaultAt-StopsAt, StopsAt-HasFaultAt}
+use Rattle.query_grammar.proofs.GrammarLaws.{IsReadToEnd-query, query-run, HasFaultAt-StopsAt, StopsAt-HasFaultAt, is-end}
 use Rattle.alg_model.specs.declared.query.Query.{Query}
 use Rattle.alg_model.specs.Answers.{AbstractQuery, abstract_of}
 use Rattle.sparql_parse.specs.declared.fault.QueryFault.{QueryFault}
@@ -40,12 +39,8 @@ Ok-one query other answer is too = let both : Ok query ≡ Ok other = sym is ∙
 Err-one : (fault other : QueryFault) (answer : Answer) → answer ≡ Err fault → answer ≡ Err other → fault ≡ other
 Err-one fault other answer is too = let both : Err fault ≡ Err other = sym is ∙ too in cc
 
-not_both : (query : AbstractQuery) (fault : QueryFault) (answer : Answer) → answer ≡ Ok query → answer ≡ Err fault → ⊥
-not_both query fault answer is too = let both : Ok query ≡ Err fault = sym is ∙ too in cc
-
-is-end : (expect : Expect) → (expect ≡ expects.End) ⊎ (expect ≢ expects.End)
-is-end expects.End = inl refl
-is-end _ = inr (λ e. cc)
+Ok-not-Err : (query : AbstractQuery) (fault : QueryFault) (answer : Answer) → answer ≡ Ok query → answer ≡ Err fault → ⊥
+Ok-not-Err query fault answer is too = let both : Ok query ≡ Err fault = sym is ∙ too in cc
 
 -- where the run over tokens stops
 front-of : (tokens front back : List Lexeme) → tokens ≡ front ++ back → take (length front) tokens ≡ front
@@ -110,11 +105,11 @@ module _ (text : List ℕ) (utf8 : IsUtf8 text) where
         no_faults = free.none;
         meant = subst (IsMeantBy tree r.labelled) is (query-meant r.labelled tree is_query);
       }
-  ended-denotes query r free same (inr going) e = absurd (not_both query (faults.Syntax (length text)) (query_at_end (length text) r) e (goes_on (length text) r going))
+  ended-denotes query r free same (inr going) e = absurd (Ok-not-Err query (faults.Syntax (length text)) (query_at_end (length text) r) e (goes_on (length text) r going))
 
   read-denotes : (query : AbstractQuery) (read : Result Reading QueryFault) → Stands (tokens_read text) read → reading-of-text text read ≡ Ok query → Denotes text query
   read-denotes query (Ok r) (free, same) e = ended-denotes query r free same (is-end r.state.expect) e
-  read-denotes query (Err fault) stands e = absurd (not_both query fault (Err fault) e refl)
+  read-denotes query (Err fault) stands e = absurd (Ok-not-Err query fault (Err fault) e refl)
 
   -- a fault
   own-is_fault : (fault : QueryFault) → HasOwnFault (tokens_read text) fault → IsFaultOf text fault
@@ -141,7 +136,7 @@ module _ (text : List ℕ) (utf8 : IsUtf8 text) where
 
   end-is_fault : (fault : QueryFault) (r : Reading) → IsFaultFree r → tokens_of r.labelled ≡ tokens_read text →
       (r.state.expect ≡ expects.End) ⊎ (r.state.expect ≢ expects.End) → query_at_end (length text) r ≡ Err fault → IsFaultOf text fault
-  end-is_fault fault r free same (inl at_end) e = absurd (not_both (query_of r.labelled) fault (query_at_end (length text) r) (ends (length text) r at_end) e)
+  end-is_fault fault r free same (inl at_end) e = absurd (Ok-not-Err (query_of r.labelled) fault (query_at_end (length text) r) (ends (length text) r at_end) e)
   end-is_fault fault r free same (inr going) e =
       let split : tokens_read text ≡ tokens_of r.labelled ++ [] = sym same ∙ sym (append-nil (tokens_of r.labelled)) in
       grammar-is_fault fault [] r free split (end-stops (tokens_read text) r free.reads split going)
@@ -212,7 +207,7 @@ pub reading-denotes : (text : List ℕ) (query : AbstractQuery) → query_readin
 reading-denotes text query e = elim (utf8-or-not text) [
   | inl utf8 ↦ read-denotes text utf8 query (read_on first (tokens_read text)) (text-stands text)
       (sym (text-read text (tokens_read text) (read_on first (tokens_read text)) (tokens_read-are text) refl) ∙ sym (good-reading text utf8) ∙ e)
-  | inr bad ↦ absurd (not_both query (faults.Syntax (utf8_valid_len text)) (query_reading text) e (bad-reading text bad))
+  | inr bad ↦ absurd (Ok-not-Err query (faults.Syntax (utf8_valid_len text)) (query_reading text) e (bad-reading text bad))
 ]
 
 pub reading-is_fault : (text : List ℕ) (fault : QueryFault) → query_reading text ≡ Err fault → IsFaultOf text fault
@@ -259,7 +254,7 @@ pub one-fault : (text : List ℕ) (fault other : QueryFault) → IsFaultOf text 
 one-fault text fault other is o = Err-one fault other (query_reading text) (fault-reading text fault is) (fault-reading text other o)
 
 pub not-both : (text : List ℕ) (query : AbstractQuery) (fault : QueryFault) → Denotes text query → ¬ IsFaultOf text fault
-not-both text query fault d is = not_both query fault (query_reading text) (denotes-reading text query d) (fault-reading text fault is)
+not-both text query fault d is = Ok-not-Err query fault (query_reading text) (denotes-reading text query d) (fault-reading text fault is)
 
 -- an answer of the parser, by what is read
 abbrev pub IsRead : List ℕ → Result Query QueryFault → Type 0
@@ -278,10 +273,10 @@ pub read-only_query : (text : List ℕ) (result : Result Query QueryFault) → I
     MatchResult result (λ answer. abstract_of answer ≡ query) (λ fault. fault ≡ faults.Memory)
 read-only_query text (Ok answer) is query d = Ok-one (abstract_of answer) query (query_reading text) is (denotes-reading text query d)
 read-only_query text (Err fault) (inl memory) query d = memory
-read-only_query text (Err fault) (inr read) query d = absurd (not_both query fault (query_reading text) (denotes-reading text query d) read)
+read-only_query text (Err fault) (inr read) query d = absurd (Ok-not-Err query fault (query_reading text) (denotes-reading text query d) read)
 
 pub read-only_fault : (text : List ℕ) (result : Result Query QueryFault) → IsRead text result → (fault : QueryFault) → IsFaultOf text fault →
     MatchResult result (λ query. ⊥) (λ answer. (answer ≡ faults.Memory) ⊎ (answer ≡ fault))
-read-only_fault text (Ok answer) is fault has = not_both (abstract_of answer) fault (query_reading text) is (fault-reading text fault has)
+read-only_fault text (Ok answer) is fault has = Ok-not-Err (abstract_of answer) fault (query_reading text) is (fault-reading text fault has)
 read-only_fault text (Err answer) (inl memory) fault has = inl memory
 read-only_fault text (Err answer) (inr read) fault has = inr (Err-one answer fault (query_reading text) read (fault-reading text fault has))

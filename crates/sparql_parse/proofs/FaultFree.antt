@@ -11,17 +11,17 @@ IsLast xs y front x back = (back ≡ []) × (front ≡ xs) × (x ≡ y)
 abbrev IsBefore : {A : Type 0} → List A → List A → A → Type 0
 IsBefore {A = A} xs front x = (more : List A) × (xs ≡ front ++ x ∷ more)
 
-one-more : {A : Type 0} (xs : List A) (y : A) (front : List A) (x : A) (back : List A) → xs ++ y ∷ [] ≡ front ++ x ∷ back →
+last-or-before : {A : Type 0} (xs : List A) (y : A) (front : List A) (x : A) (back : List A) → xs ++ y ∷ [] ≡ front ++ x ∷ back →
     IsLast xs y front x back ⊎ IsBefore xs front x
-one-more [] y [] x back e = inl (let b : back ≡ [] = cc in b, refl, let s : x ≡ y = cc in s)
-one-more (z ∷ zs) y [] x back e = inr (zs, let s : z ≡ x = cc in ap (λ w. w ∷ zs) s)
-one-more [] y (f ∷ front) x back e =
+last-or-before [] y [] x back e = inl (let b : back ≡ [] = cc in b, refl, let s : x ≡ y = cc in s)
+last-or-before (z ∷ zs) y [] x back e = inr (zs, let s : z ≡ x = cc in ap (λ w. w ∷ zs) s)
+last-or-before [] y (f ∷ front) x back e =
     let rest : [] ≡ front ++ x ∷ back = cc in
     absurd (omega (arith, ap length rest, length-append front (x ∷ back)))
-one-more (z ∷ zs) y (f ∷ front) x back e =
+last-or-before (z ∷ zs) y (f ∷ front) x back e =
     let rest : zs ++ y ∷ [] ≡ front ++ x ∷ back = cc in
     let same : z ≡ f = cc in
-    elim (one-more zs y front x back rest) [
+    elim (last-or-before zs y front x back rest) [
       | inl last ↦ inl (last.0, ap (λ w. f ∷ w) last.1 ∙ ap (λ w. w ∷ zs) (sym same), last.2)
       | inr before ↦ inr (before.0, ap (λ w. w ∷ zs) same ∙ ap (λ w. f ∷ w) before.1)
     ]
@@ -31,7 +31,7 @@ none-nothing before behind l e = absurd (omega (arith, ap length e, length-appen
 
 pub none-more : (ls : List Labelled) (l : Labelled) → HasNoFaults ls → fault_of ls l ≡ None → HasNoFaults (ls ++ l ∷ [])
 none-more ls l none own before behind x e =
-    elim (one-more ls l before x behind e) [
+    elim (last-or-before ls l before x behind e) [
       | inl last ↦ ap (λ b. fault_of b x) last.1 ∙ ap (fault_of ls) last.2 ∙ own
       | inr inside ↦ none before inside.0 x inside.1
     ]
