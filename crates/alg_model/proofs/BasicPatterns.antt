@@ -11,8 +11,8 @@ use Rattle.alg_model.specs.declared.pattern.Place.TheVariants as places
 use Rattle.alg_model.specs.declared.pattern.TriplePat.{TriplePat}
 use Rattle.alg_model.specs.Row.{Row, unbound, single, merged, both_rows, join}
 use Rattle.std.specs.Cmp.Lexicographic.{bytes_decides}
-use Rattle.alg_model.specs.Pattern.{Basic, HasVarsBelow, place_vars, triple_vars}
-use Rattle.alg_model.specs.Eval.{Reading, place_row, match_of, matches_of, bgp_rows, as_terms}
+use Rattle.alg_model.specs.Pattern.{Bgp, HasVarsBelow, place_vars, triple_vars}
+use Rattle.alg_model.specs.Eval.{Interpretation, place_row, match_of, matches_of, bgp_rows, as_terms}
 use Rattle.alg_model.specs.Solution.{binding, BindsJust, Becomes, Makes, IsSolution, AreSolutions, IsFaithful}
 use Rattle.alg_model.proofs.Lists.{filter_map_as_flat_map, Contains-head, Contains-nil, Contains-single, Contains-flat_map, source-flat_map, AllPairs-option, once-flat_map}
 use Rattle.alg_model.proofs.Width.{width-unbound, width-single}
@@ -96,28 +96,28 @@ both_rows_as_join test None s = refl
 both_rows_as_join test (Some r) None = refl
 both_rows_as_join test (Some r) (Some s) = option_as_list (merged test r s)
 
-module _ {V X : Type 0} (reading : Reading V X) (faithful : IsFaithful reading) (n : ℕ) where
+module _ {V X : Type 0} (interpretation : Interpretation V X) (faithful : IsFaithful interpretation) (n : ℕ) where
   -- ---- a place
 
   -- what a place matches is the row that binds just its variable and makes it the value
-  rows_of_place : (place : Place) (value : V) → AreBelow n (place_vars place) → AreRowsOf n (place_vars place) (λ row. Becomes reading row place value) (option_to_list (place_row reading n place value))
-  rows_of_place (places.Term text) value below = rows-test n (reading.stands_for value text)
+  rows_of_place : (place : Place) (value : V) → AreBelow n (place_vars place) → AreRowsOf n (place_vars place) (λ row. Becomes interpretation row place value) (option_to_list (place_row interpretation n place value))
+  rows_of_place (places.Term text) value below = rows-test n (interpretation.stands_for value text)
   rows_of_place (places.Var var) value below = rows-single n var.0 value (below var.0 (Contains-head var.0 []))
 
   -- what a place becomes depends on its variable alone
-  looks_place : (place : Place) (value : V) → LooksAt (place_vars place) (λ row. Becomes reading row place value)
+  looks_place : (place : Place) (value : V) → LooksAt (place_vars place) (λ row. Becomes interpretation row place value)
   looks_place (places.Term text) value = record { along = λ r s same is. is }
   looks_place (places.Var var) value = record { along = λ r s same is. sym (same var.0 (Contains-head var.0 [])) ∙ is }
 
   -- a place becomes one value under one row
-  one_place : (place : Place) (row : Row V) (v w : V) → Becomes reading row place v → Becomes reading row place w → v ≡ w
+  one_place : (place : Place) (row : Row V) (v w : V) → Becomes interpretation row place v → Becomes interpretation row place w → v ≡ w
   one_place (places.Term text) row v w p q = faithful.one_value v w text p q
   one_place (places.Var var) row v w p q = cc
 
   -- ---- a triple pattern and a triple
 
   -- what a triple pattern becomes depends on its variables alone
-  looks_makes : (pattern : TriplePat) (triple : X) → LooksAt (triple_vars pattern) (λ row. Makes reading row pattern triple)
+  looks_makes : (pattern : TriplePat) (triple : X) → LooksAt (triple_vars pattern) (λ row. Makes interpretation row pattern triple)
   looks_makes pattern triple =
       let s = place_vars pattern.subject in
       let p = place_vars pattern.predicate in
@@ -125,67 +125,67 @@ module _ {V X : Type 0} (reading : Reading V X) (faithful : IsFaithful reading) 
       let first = λ (k : ℕ) (at : Contains (s ++ p) k). Contains-append_left (s ++ p) o k at in
       record {
         along = λ r q same makes. record {
-          subject = (looks_place pattern.subject (reading.subject triple)).along r q (λ k at. same k (first k (Contains-append_left s p k at))) makes.subject;
-          predicate = (looks_place pattern.predicate (reading.predicate triple)).along r q (λ k at. same k (first k (Contains-append_right s p k at))) makes.predicate;
-          object = (looks_place pattern.object (reading.object triple)).along r q (λ k at. same k (Contains-append_right (s ++ p) o k at)) makes.object;
+          subject = (looks_place pattern.subject (interpretation.subject triple)).along r q (λ k at. same k (first k (Contains-append_left s p k at))) makes.subject;
+          predicate = (looks_place pattern.predicate (interpretation.predicate triple)).along r q (λ k at. same k (first k (Contains-append_right s p k at))) makes.predicate;
+          object = (looks_place pattern.object (interpretation.object triple)).along r q (λ k at. same k (Contains-append_right (s ++ p) o k at)) makes.object;
         };
       }
 
   -- the match of a triple is the row that binds just the variables of the pattern and makes it the triple
-  rows_of_match : (pattern : TriplePat) (triple : X) → AreBelow n (triple_vars pattern) → AreRowsOf n (triple_vars pattern) (λ row. Makes reading row pattern triple) (option_to_list (match_of reading n pattern triple))
+  rows_of_match : (pattern : TriplePat) (triple : X) → AreBelow n (triple_vars pattern) → AreRowsOf n (triple_vars pattern) (λ row. Makes interpretation row pattern triple) (option_to_list (match_of interpretation n pattern triple))
   rows_of_match pattern triple below =
-      let test = reading.same in
+      let test = interpretation.same in
       let s = place_vars pattern.subject in
       let p = place_vars pattern.predicate in
       let o = place_vars pattern.object in
-      let S : Row V → Type 0 = λ row. Becomes reading row pattern.subject (reading.subject triple) in
-      let P : Row V → Type 0 = λ row. Becomes reading row pattern.predicate (reading.predicate triple) in
-      let O : Row V → Type 0 = λ row. Becomes reading row pattern.object (reading.object triple) in
-      let rs = place_row reading n pattern.subject (reading.subject triple) in
-      let rp = place_row reading n pattern.predicate (reading.predicate triple) in
-      let ro = place_row reading n pattern.object (reading.object triple) in
-      let looks_s = looks_place pattern.subject (reading.subject triple) in
-      let looks_p = looks_place pattern.predicate (reading.predicate triple) in
-      let looks_o = looks_place pattern.object (reading.object triple) in
+      let S : Row V → Type 0 = λ row. Becomes interpretation row pattern.subject (interpretation.subject triple) in
+      let P : Row V → Type 0 = λ row. Becomes interpretation row pattern.predicate (interpretation.predicate triple) in
+      let O : Row V → Type 0 = λ row. Becomes interpretation row pattern.object (interpretation.object triple) in
+      let rs = place_row interpretation n pattern.subject (interpretation.subject triple) in
+      let rp = place_row interpretation n pattern.predicate (interpretation.predicate triple) in
+      let ro = place_row interpretation n pattern.object (interpretation.object triple) in
+      let looks_s = looks_place pattern.subject (interpretation.subject triple) in
+      let looks_p = looks_place pattern.predicate (interpretation.predicate triple) in
+      let looks_o = looks_place pattern.object (interpretation.object triple) in
       let below_first = λ (k : ℕ) (at : Contains (s ++ p) k). below k (Contains-append_left (s ++ p) o k at) in
-      let are_s = rows_of_place pattern.subject (reading.subject triple) (λ k at. below_first k (Contains-append_left s p k at)) in
-      let are_p = rows_of_place pattern.predicate (reading.predicate triple) (λ k at. below_first k (Contains-append_right s p k at)) in
-      let are_o = rows_of_place pattern.object (reading.object triple) (λ k at. below k (Contains-append_right (s ++ p) o k at)) in
+      let are_s = rows_of_place pattern.subject (interpretation.subject triple) (λ k at. below_first k (Contains-append_left s p k at)) in
+      let are_p = rows_of_place pattern.predicate (interpretation.predicate triple) (λ k at. below_first k (Contains-append_right s p k at)) in
+      let are_o = rows_of_place pattern.object (interpretation.object triple) (λ k at. below k (Contains-append_right (s ++ p) o k at)) in
       let first = rows-join test faithful.same n s p S P (option_to_list rs) (option_to_list rp) are_s are_p looks_s looks_p in
       let both = join test (option_to_list rs) (option_to_list rp) in
       let all = rows-join test faithful.same n (s ++ p) o (λ row. S row × P row) O both (option_to_list ro) first are_o (LooksAt-both s p S P looks_s looks_p) looks_o in
       let list = both_rows_as_join test (both_rows test rs rp) ro ∙ ap (λ rows. join test rows (option_to_list ro)) (both_rows_as_join test rs rp) in
-      AreRowsOf-same n (triple_vars pattern) (triple_vars pattern) (λ row. (S row × P row) × O row) (λ row. Makes reading row pattern triple) (join test both (option_to_list ro)) (option_to_list (match_of reading n pattern triple)) refl list
+      AreRowsOf-same n (triple_vars pattern) (triple_vars pattern) (λ row. (S row × P row) × O row) (λ row. Makes interpretation row pattern triple) (join test both (option_to_list ro)) (option_to_list (match_of interpretation n pattern triple)) refl list
       (λ row. (λ h. record { subject = h.0.0; predicate = h.0.1; object = h.1 }, λ m. ((m.subject, m.predicate), m.object))) all
 
   -- two triples that a triple pattern becomes under one row are one
-  one_made : (pattern : TriplePat) (row : Row V) (t u : X) → Makes reading row pattern t → Makes reading row pattern u → t ≡ u
+  one_made : (pattern : TriplePat) (row : Row V) (t u : X) → Makes interpretation row pattern t → Makes interpretation row pattern u → t ≡ u
   one_made pattern row t u p q = faithful.one_triple t u
-      (one_place pattern.subject row (reading.subject t) (reading.subject u) p.subject q.subject)
-      (one_place pattern.predicate row (reading.predicate t) (reading.predicate u) p.predicate q.predicate)
-      (one_place pattern.object row (reading.object t) (reading.object u) p.object q.object)
+      (one_place pattern.subject row (interpretation.subject t) (interpretation.subject u) p.subject q.subject)
+      (one_place pattern.predicate row (interpretation.predicate t) (interpretation.predicate u) p.predicate q.predicate)
+      (one_place pattern.object row (interpretation.object t) (interpretation.object u) p.object q.object)
 
   -- ---- a triple pattern and a list of triples
 
   module _ (triples : List X) where
     -- the row makes the triple pattern one of the triples
     abbrev MakesOne : TriplePat → Row V → Type 0
-    MakesOne pattern row = Any (Makes reading row pattern) triples
+    MakesOne pattern row = Any (Makes interpretation row pattern) triples
 
     -- this depends on the variables of the pattern alone
     looks_makes_one : (pattern : TriplePat) → LooksAt (triple_vars pattern) (MakesOne pattern)
     looks_makes_one pattern = record { along = λ r q same a. (a.0, a.1, a.2, a.3, (looks_makes pattern a.1).along r q same a.4) }
 
     -- the matches, as a `flat_map` over the triples
-    matches_as_flat_map : (pattern : TriplePat) → matches_of reading n pattern triples ≡ flat_map (λ t. option_to_list (match_of reading n pattern t)) triples
-    matches_as_flat_map pattern = filter_map_as_flat_map (match_of reading n pattern) triples
+    matches_as_flat_map : (pattern : TriplePat) → matches_of interpretation n pattern triples ≡ flat_map (λ t. option_to_list (match_of interpretation n pattern t)) triples
+    matches_as_flat_map pattern = filter_map_as_flat_map (match_of interpretation n pattern) triples
 
     -- the matches are the rows that bind just the variables of the pattern and make it one of the triples
-    rows_of_matches : (pattern : TriplePat) → AreBelow n (triple_vars pattern) → AreRowsOf n (triple_vars pattern) (MakesOne pattern) (matches_of reading n pattern triples)
+    rows_of_matches : (pattern : TriplePat) → AreBelow n (triple_vars pattern) → AreRowsOf n (triple_vars pattern) (MakesOne pattern) (matches_of interpretation n pattern triples)
     rows_of_matches pattern below =
-        let each = λ (t : X). option_to_list (match_of reading n pattern t) in
+        let each = λ (t : X). option_to_list (match_of interpretation n pattern t) in
         let are = λ (t : X). rows_of_match pattern t below in
-        AreRowsOf-same n (triple_vars pattern) (triple_vars pattern) (MakesOne pattern) (MakesOne pattern) (flat_map each triples) (matches_of reading n pattern triples) refl (matches_as_flat_map pattern) (λ row. (λ h. h, λ h. h)) (record {
+        AreRowsOf-same n (triple_vars pattern) (triple_vars pattern) (MakesOne pattern) (MakesOne pattern) (flat_map each triples) (matches_of interpretation n pattern triples) refl (matches_as_flat_map pattern) (λ row. (λ h. h, λ h. h)) (record {
           sound = λ row h.
               let from = source-flat_map each triples row h in
               let is = (are from.0).sound row from.2 in
@@ -197,17 +197,17 @@ module _ {V X : Type 0} (reading : Reading V X) (faithful : IsFaithful reading) 
         })
 
     -- no match stands twice
-    once_matches : (pattern : TriplePat) → AreBelow n (triple_vars pattern) → AllPairs (λ t u. t ≢ u) triples → AllPairs (λ r s. r ≢ s) (matches_of reading n pattern triples)
+    once_matches : (pattern : TriplePat) → AreBelow n (triple_vars pattern) → AllPairs (λ t u. t ≢ u) triples → AllPairs (λ r s. r ≢ s) (matches_of interpretation n pattern triples)
     once_matches pattern below once =
         subst (AllPairs (λ r s. r ≢ s)) (sym (matches_as_flat_map pattern))
-        (once-flat_map (λ t. option_to_list (match_of reading n pattern t)) triples once (λ t _. AllPairs-option (λ r s. r ≢ s) (match_of reading n pattern t))
+        (once-flat_map (λ t. option_to_list (match_of interpretation n pattern t)) triples once (λ t _. AllPairs-option (λ r s. r ≢ s) (match_of interpretation n pattern t))
         (λ t u row _ _ at at'. one_made pattern row t u ((rows_of_match pattern t below).sound row at).holds ((rows_of_match pattern u below).sound row at').holds))
 
     -- ---- a list of triple patterns
 
     -- the rows so far, joined with the matches of one more triple pattern
     abbrev step : List (Row V) → TriplePat → List (Row V)
-    step rows pattern = join reading.same rows (matches_of reading n pattern triples)
+    step rows pattern = join interpretation.same rows (matches_of interpretation n pattern triples)
 
     -- the variables of the first triple pattern are below n
     below_first : (pattern : TriplePat) (patterns : List TriplePat) → AreBelow n (flat_map triple_vars (pattern ∷ patterns)) → AreBelow n (triple_vars pattern)
@@ -221,7 +221,7 @@ module _ {V X : Type 0} (reading : Reading V X) (faithful : IsFaithful reading) 
     rows_of_step : (vs : List ℕ) (P : Row V → Type 0) (rows : List (Row V)) (pattern : TriplePat) → LooksAt vs P → AreRowsOf n vs P rows → AreBelow n (triple_vars pattern) →
         AreRowsOf n (vs ++ triple_vars pattern) (λ row. P row × MakesOne pattern row) (step rows pattern)
     rows_of_step vs P rows pattern looks are below =
-        rows-join reading.same faithful.same n vs (triple_vars pattern) P (MakesOne pattern) rows (matches_of reading n pattern triples) are (rows_of_matches pattern below) looks (looks_makes_one pattern)
+        rows-join interpretation.same faithful.same n vs (triple_vars pattern) P (MakesOne pattern) rows (matches_of interpretation n pattern triples) are (rows_of_matches pattern below) looks (looks_makes_one pattern)
 
     -- a list of triple patterns: the rows make each of them one of the triples
     rows_of_fold : (patterns : List TriplePat) (vs : List ℕ) (P : Row V → Type 0) (rows : List (Row V)) → LooksAt vs P → AreRowsOf n vs P rows → AreBelow n (flat_map triple_vars patterns) →
@@ -249,7 +249,7 @@ module _ {V X : Type 0} (reading : Reading V X) (faithful : IsFaithful reading) 
         let mine = triple_vars pattern in
         once_fold distinct patterns (vs ++ mine) (λ row. P row × MakesOne pattern row) (step rows pattern) (LooksAt-both vs mine P (MakesOne pattern) looks (looks_makes_one pattern))
         (rows_of_step vs P rows pattern looks are first) (below_rest pattern patterns below)
-        (once-join reading.same faithful.same n vs mine P (MakesOne pattern) rows (matches_of reading n pattern triples) are (rows_of_matches pattern first) once (once_matches pattern first distinct))
+        (once-join interpretation.same faithful.same n vs mine P (MakesOne pattern) rows (matches_of interpretation n pattern triples) are (rows_of_matches pattern first) once (once_matches pattern first distinct))
 
   -- ---- a basic graph pattern
 
@@ -262,7 +262,7 @@ module _ {V X : Type 0} (reading : Reading V X) (faithful : IsFaithful reading) 
   looks_none = record { along = λ r s same h. h }
 
   -- the rows of a basic graph pattern are exactly its solutions
-  pub basic-exactly : (patterns : List TriplePat) (triples : List X) → HasVarsBelow n (Basic patterns) → (row : Row V) → Contains (bgp_rows reading n patterns triples) row ↔ IsSolution reading n patterns triples row
+  pub basic-exactly : (patterns : List TriplePat) (triples : List X) → HasVarsBelow n (Bgp patterns) → (row : Row V) → Contains (bgp_rows interpretation n patterns triples) row ↔ IsSolution interpretation n patterns triples row
   basic-exactly patterns triples below row =
       let vars = flat_map triple_vars patterns in
       let are = rows_of_fold triples patterns [] (λ row. ⊤) (unbound V n ∷ []) looks_none rows_of_none (λ k at. All-contains (λ k. k < n) vars k below at) in (
@@ -271,13 +271,13 @@ module _ {V X : Type 0} (reading : Reading V X) (faithful : IsFaithful reading) 
       )
 
   -- over triples without repeats no row of it stands twice
-  pub basic-once : (patterns : List TriplePat) (triples : List X) → HasVarsBelow n (Basic patterns) → AllPairs (λ t u. t ≢ u) triples → AllPairs (λ r s. r ≢ s) (bgp_rows reading n patterns triples)
+  pub basic-once : (patterns : List TriplePat) (triples : List X) → HasVarsBelow n (Bgp patterns) → AllPairs (λ t u. t ≢ u) triples → AllPairs (λ r s. r ≢ s) (bgp_rows interpretation n patterns triples)
   basic-once patterns triples below distinct =
       let vars = flat_map triple_vars patterns in
       once_fold triples distinct patterns [] (λ row. ⊤) (unbound V n ∷ []) looks_none rows_of_none (λ k at. All-contains (λ k. k < n) vars k below at) (AllPairs-option (λ r s. r ≢ s) (Some (unbound V n)))
 
   -- both in one
-  pub basic-solutions : (patterns : List TriplePat) (triples : List X) → HasVarsBelow n (Basic patterns) → AllPairs (λ t u. t ≢ u) triples → AreSolutions reading n patterns triples (bgp_rows reading n patterns triples)
+  pub basic-solutions : (patterns : List TriplePat) (triples : List X) → HasVarsBelow n (Bgp patterns) → AllPairs (λ t u. t ≢ u) triples → AreSolutions interpretation n patterns triples (bgp_rows interpretation n patterns triples)
   basic-solutions patterns triples below distinct = record { exactly = basic-exactly patterns triples below; once = basic-once patterns triples below distinct }
 
 -- values and triples of terms are told apart by their texts

@@ -9,7 +9,7 @@ use Rattle.alg_model.specs.declared.pattern.TriplePat.{TriplePat}
 use Rattle.alg_model.specs.declared.pattern.Pattern.TheVariants as patterns
 use Rattle.alg_model.specs.declared.query.Query.{Query}
 use Rattle.alg_model.specs.Row.{join}
-use Rattle.alg_model.specs.Pattern.{Basic, Joined, Optional, algebra_of}
+use Rattle.alg_model.specs.Pattern.{Bgp, Join, LeftJoin, algebra_of}
 use Rattle.alg_model.specs.Eval.{as_terms, eval}
 use Rattle.alg_model.specs.Solution.{BindsJust, Makes, IsSolution}
 use Rattle.alg_model.specs.Answers.{answers_of}
@@ -49,39 +49,39 @@ abbrev pattern : Place → Place → ℕ → TriplePat
 pattern subject object number = record { subject = subject; predicate = places.Term p; object = object; number = number }
 
 -- ?x p ?y . ?y p ?z over (a p b), (b p c): the one row a b c
-two_patterns : eval as_terms 3 (Basic (pattern x y 1 ∷ pattern y z 2 ∷ [])) (triple a b ∷ triple b c ∷ []) ≡ (Some a ∷ Some b ∷ Some c ∷ []) ∷ []
+two_patterns : eval as_terms 3 (Bgp (pattern x y 1 ∷ pattern y z 2 ∷ [])) (triple a b ∷ triple b c ∷ []) ≡ (Some a ∷ Some b ∷ Some c ∷ []) ∷ []
 two_patterns = refl
 
 -- constants alone that are a triple: the one row that binds nothing
-constants_found : eval as_terms 1 (Basic (pattern (term a) (term b) 1 ∷ [])) (triple a b ∷ triple b c ∷ []) ≡ (None ∷ []) ∷ []
+constants_found : eval as_terms 1 (Bgp (pattern (term a) (term b) 1 ∷ [])) (triple a b ∷ triple b c ∷ []) ≡ (None ∷ []) ∷ []
 constants_found = refl
 
 -- constants alone that are no triple: no row
-constants_missing : eval as_terms 1 (Basic (pattern (term a) (term c) 1 ∷ [])) (triple a b ∷ triple b c ∷ []) ≡ []
+constants_missing : eval as_terms 1 (Bgp (pattern (term a) (term c) 1 ∷ [])) (triple a b ∷ triple b c ∷ []) ≡ []
 constants_missing = refl
 
 -- no triple pattern: the one row that binds nothing
-no_pattern : eval as_terms 2 (Basic []) (triple a b ∷ []) ≡ (None ∷ None ∷ []) ∷ []
+no_pattern : eval as_terms 2 (Bgp []) (triple a b ∷ []) ≡ (None ∷ None ∷ []) ∷ []
 no_pattern = refl
 
 -- ?x p ?x over (a p b), (c p c): the one row c
-repeated_variable : eval as_terms 1 (Basic (pattern x x 1 ∷ [])) (triple a b ∷ triple c c ∷ []) ≡ (Some c ∷ []) ∷ []
+repeated_variable : eval as_terms 1 (Bgp (pattern x x 1 ∷ [])) (triple a b ∷ triple c c ∷ []) ≡ (Some c ∷ []) ∷ []
 repeated_variable = refl
 
 -- {?x p ?y} OPTIONAL {?y p ?z}: the row a b finds a partner, and the row b c none
-optional_part : eval as_terms 3 (Optional (Basic (pattern x y 1 ∷ [])) (Basic (pattern y z 2 ∷ []))) (triple a b ∷ triple b c ∷ []) ≡ (Some a ∷ Some b ∷ Some c ∷ []) ∷ (Some b ∷ Some c ∷ None ∷ []) ∷ []
+optional_part : eval as_terms 3 (LeftJoin (Bgp (pattern x y 1 ∷ [])) (Bgp (pattern y z 2 ∷ []))) (triple a b ∷ triple b c ∷ []) ≡ (Some a ∷ Some b ∷ Some c ∷ []) ∷ (Some b ∷ Some c ∷ None ∷ []) ∷ []
 optional_part = refl
 
 -- {?x p ?y} OPTIONAL {c p ?z}, where no triple has the subject c: the left rows
-optional_missing : eval as_terms 3 (Optional (Basic (pattern x y 1 ∷ [])) (Basic (pattern (term c) z 2 ∷ []))) (triple a b ∷ triple b c ∷ []) ≡ (Some a ∷ Some b ∷ None ∷ []) ∷ (Some b ∷ Some c ∷ None ∷ []) ∷ []
+optional_missing : eval as_terms 3 (LeftJoin (Bgp (pattern x y 1 ∷ [])) (Bgp (pattern (term c) z 2 ∷ []))) (triple a b ∷ triple b c ∷ []) ≡ (Some a ∷ Some b ∷ None ∷ []) ∷ (Some b ∷ Some c ∷ None ∷ []) ∷ []
 optional_missing = refl
 
 -- {?x p b} OPTIONAL {b p ?y OPTIONAL {?y p ?z}}: the inner part has no partner for c, and the row a is merged with b c
-optional_nested : eval as_terms 3 (Optional (Basic (pattern x (term b) 1 ∷ [])) (Optional (Basic (pattern (term b) y 2 ∷ [])) (Basic (pattern y z 3 ∷ [])))) (triple a b ∷ triple b c ∷ []) ≡ (Some a ∷ Some c ∷ None ∷ []) ∷ []
+optional_nested : eval as_terms 3 (LeftJoin (Bgp (pattern x (term b) 1 ∷ [])) (LeftJoin (Bgp (pattern (term b) y 2 ∷ [])) (Bgp (pattern y z 3 ∷ [])))) (triple a b ∷ triple b c ∷ []) ≡ (Some a ∷ Some c ∷ None ∷ []) ∷ []
 optional_nested = refl
 
 -- the Join of two optional parts: a variable that the left row leaves unbound is bound by the right row
-joined_optionals : eval as_terms 3 (Joined (Optional (Basic (pattern x y 1 ∷ [])) (Basic (pattern y z 2 ∷ []))) (Basic (pattern (term b) y 3 ∷ pattern (term a) z 4 ∷ []))) (triple a b ∷ triple b c ∷ []) ≡ (Some b ∷ Some c ∷ Some b ∷ []) ∷ []
+joined_optionals : eval as_terms 3 (Join (LeftJoin (Bgp (pattern x y 1 ∷ [])) (Bgp (pattern y z 2 ∷ []))) (Bgp (pattern (term b) y 3 ∷ pattern (term a) z 4 ∷ []))) (triple a b ∷ triple b c ∷ []) ≡ (Some b ∷ Some c ∷ Some b ∷ []) ∷ []
 joined_optionals = refl
 
 -- a Join keeps rows that are alike: a b stands twice
@@ -89,14 +89,14 @@ join_alike : join as_terms.same ((Some a ∷ None ∷ []) ∷ (None ∷ Some b �
 join_alike = refl
 
 -- the Join of two patterns without a common variable: each pair
-cross_product : eval as_terms 2 (Joined (Basic (pattern x (term b) 1 ∷ [])) (Basic (pattern y (term c) 2 ∷ []))) (triple a b ∷ triple b c ∷ triple c b ∷ []) ≡ (Some a ∷ Some b ∷ []) ∷ (Some c ∷ Some b ∷ []) ∷ []
+cross_product : eval as_terms 2 (Join (Bgp (pattern x (term b) 1 ∷ [])) (Bgp (pattern y (term c) 2 ∷ []))) (triple a b ∷ triple b c ∷ triple c b ∷ []) ≡ (Some a ∷ Some b ∷ []) ∷ (Some c ∷ Some b ∷ []) ∷ []
 cross_product = refl
 
 -- the code's Join and LeftJoin, whose sides stand in boxes
-boxed_join : (list other : List TriplePat) → (p q : _) → algebra_of (patterns.Join' p (patterns.Bgp list) q (patterns.Bgp other)) ≡ Joined (Basic list) (Basic other)
+boxed_join : (list other : List TriplePat) → (p q : _) → algebra_of (patterns.Join' p (patterns.Bgp list) q (patterns.Bgp other)) ≡ Join (Bgp list) (Bgp other)
 boxed_join list other p q = refl
 
-boxed_left_join : (list other : List TriplePat) → (p q : _) → algebra_of (patterns.LeftJoin' p (patterns.Bgp list) q (patterns.Bgp other)) ≡ Optional (Basic list) (Basic other)
+boxed_left_join : (list other : List TriplePat) → (p q : _) → algebra_of (patterns.LeftJoin' p (patterns.Bgp list) q (patterns.Bgp other)) ≡ LeftJoin (Bgp list) (Bgp other)
 boxed_left_join list other p q = refl
 
 -- ---- answers

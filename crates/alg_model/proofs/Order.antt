@@ -5,8 +5,8 @@ use Rattle.std.proofs.lemmas.List.Elements.{filter_agree}
 use Rattle.std.specs.List.{list_any}
 use Rattle.alg_model.specs.declared.pattern.TriplePat.{TriplePat}
 use Rattle.alg_model.specs.Row.{Row, unbound, are_compatible, merged, join, without_partner, left_join}
-use Rattle.alg_model.specs.Pattern.{Algebra, Basic, Joined, Optional}
-use Rattle.alg_model.specs.Eval.{Reading, match_of, matches_of, eval}
+use Rattle.alg_model.specs.Pattern.{Algebra, Bgp, Join, LeftJoin}
+use Rattle.alg_model.specs.Eval.{Interpretation, match_of, matches_of, eval}
 use Rattle.alg_model.proofs.Lists.{filter_map_as_flat_map, filter_as_flat_map}
 
 module _ {X Y : Type 0} (f : X → List Y) where
@@ -91,22 +91,22 @@ module _ {V : Type 0} (test : V → V → Bool) (left others right rights : List
       IsPermutation-append (join test left right) (join test others rights) (without_partner test left right) (without_partner test others rights) join-IsPermutation without_partner-IsPermutation
 
 -- the order of the triples does not matter to the bag of rows
-module _ {V X : Type 0} (reading : Reading V X) (n : ℕ) (triples others : List X) (same : IsPermutation triples others) where
+module _ {V X : Type 0} (interpretation : Interpretation V X) (n : ℕ) (triples others : List X) (same : IsPermutation triples others) where
   -- the rows so far, joined with the matches of one more triple pattern
   abbrev step : List X → List (Row V) → TriplePat → List (Row V)
-  step triples rows pattern = join reading.same rows (matches_of reading n pattern triples)
+  step triples rows pattern = join interpretation.same rows (matches_of interpretation n pattern triples)
 
   -- a list of triple patterns, from the same bag of rows
   fold-IsPermutation : (patterns : List TriplePat) (rows rows' : List (Row V)) → IsPermutation rows rows' → IsPermutation (fold (step triples) rows patterns) (fold (step others) rows' patterns)
   fold-IsPermutation [] rows rows' h = h
   fold-IsPermutation (pattern ∷ patterns) rows rows' h =
       fold-IsPermutation patterns (step triples rows pattern) (step others rows' pattern)
-      (join-IsPermutation reading.same rows rows' (matches_of reading n pattern triples) (matches_of reading n pattern others) h (IsPermutation-filter_map (match_of reading n pattern) triples others same))
+      (join-IsPermutation interpretation.same rows rows' (matches_of interpretation n pattern triples) (matches_of interpretation n pattern others) h (IsPermutation-filter_map (match_of interpretation n pattern) triples others same))
 
   -- a pattern gives the same bag of rows over the triples in any order
-  pub eval-IsPermutation : (pattern : Algebra) → IsPermutation (eval reading n pattern triples) (eval reading n pattern others)
-  eval-IsPermutation (Basic patterns) = fold-IsPermutation patterns (unbound V n ∷ []) (unbound V n ∷ []) (IsPermutation-refl (unbound V n ∷ []))
-  eval-IsPermutation (Joined left right) =
-      join-IsPermutation reading.same (eval reading n left triples) (eval reading n left others) (eval reading n right triples) (eval reading n right others) (eval-IsPermutation left) (eval-IsPermutation right)
-  eval-IsPermutation (Optional left right) =
-      left_join-IsPermutation reading.same (eval reading n left triples) (eval reading n left others) (eval reading n right triples) (eval reading n right others) (eval-IsPermutation left) (eval-IsPermutation right)
+  pub eval-IsPermutation : (pattern : Algebra) → IsPermutation (eval interpretation n pattern triples) (eval interpretation n pattern others)
+  eval-IsPermutation (Bgp patterns) = fold-IsPermutation patterns (unbound V n ∷ []) (unbound V n ∷ []) (IsPermutation-refl (unbound V n ∷ []))
+  eval-IsPermutation (Join left right) =
+      join-IsPermutation interpretation.same (eval interpretation n left triples) (eval interpretation n left others) (eval interpretation n right triples) (eval interpretation n right others) (eval-IsPermutation left) (eval-IsPermutation right)
+  eval-IsPermutation (LeftJoin left right) =
+      left_join-IsPermutation interpretation.same (eval interpretation n left triples) (eval interpretation n left others) (eval interpretation n right triples) (eval interpretation n right others) (eval-IsPermutation left) (eval-IsPermutation right)

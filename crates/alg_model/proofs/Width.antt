@@ -8,9 +8,9 @@ use Rattle.alg_model.specs.declared.pattern.Place.{Place}
 use Rattle.alg_model.specs.declared.pattern.Place.TheVariants as places
 use Rattle.alg_model.specs.declared.pattern.TriplePat.{TriplePat}
 use Rattle.alg_model.specs.Row.{Row, unbound, single, are_compatible, merge, merge_cells, merged, both_rows, join, without_partner, left_join}
-use Rattle.alg_model.specs.Pattern.{Algebra, Basic, Joined, Optional}
+use Rattle.alg_model.specs.Pattern.{Algebra, Bgp, Join, LeftJoin}
 use Rattle.alg_model.proofs.Lists.{All-filter_map, All-flat_map}
-use Rattle.alg_model.specs.Eval.{Reading, place_row, match_of, matches_of, eval}
+use Rattle.alg_model.specs.Eval.{Interpretation, place_row, match_of, matches_of, eval}
 
 -- the row has n cells
 abbrev pub HasWidth : {V : Type 0} → ℕ → Row V → Type 0
@@ -57,35 +57,35 @@ module _ {V : Type 0} (n : ℕ) where
       All-append (HasWidth n) (join same left right) (without_partner same left right) (width-join same left right hl hr)
       (All-filter (λ r. not (list_any (are_compatible same r) right)) (HasWidth n) left hl)
 
-module _ {V X : Type 0} (reading : Reading V X) (n : ℕ) where
+module _ {V X : Type 0} (interpretation : Interpretation V X) (n : ℕ) where
   -- what a place matches gives a row of n cells
-  width-place_row : (place : Place) (value : V) → IfSome (place_row reading n place value) (HasWidth n)
+  width-place_row : (place : Place) (value : V) → IfSome (place_row interpretation n place value) (HasWidth n)
   width-place_row (places.Term text) value =
-      elim (reading.stands_for value text) as (λ b. IfSome (if b then Some (unbound V n) else None) (HasWidth n)) [
+      elim (interpretation.stands_for value text) as (λ b. IfSome (if b then Some (unbound V n) else None) (HasWidth n)) [
         | true ↦ width-unbound V n
         | false ↦ tt
       ]
   width-place_row (places.Var var) value = width-single n var.0 value
 
   -- the matches of a triple pattern have n cells
-  pub width-matches_of : (pattern : TriplePat) (triples : List X) → All (HasWidth n) (matches_of reading n pattern triples)
+  pub width-matches_of : (pattern : TriplePat) (triples : List X) → All (HasWidth n) (matches_of interpretation n pattern triples)
   width-matches_of pattern triples =
-      let same = reading.same in
-      let row : Place → V → Option (Row V) = place_row reading n in
-      All-filter_map (match_of reading n pattern) (λ _. Unit {0}) (HasWidth n)
-      (λ triple _. width-both_rows n same (both_rows same (row pattern.subject (reading.subject triple)) (row pattern.predicate (reading.predicate triple))) (row pattern.object (reading.object triple))
-      (width-both_rows n same (row pattern.subject (reading.subject triple)) (row pattern.predicate (reading.predicate triple)) (width-place_row pattern.subject (reading.subject triple)) (width-place_row pattern.predicate (reading.predicate triple)))
-      (width-place_row pattern.object (reading.object triple)))
+      let same = interpretation.same in
+      let row : Place → V → Option (Row V) = place_row interpretation n in
+      All-filter_map (match_of interpretation n pattern) (λ _. Unit {0}) (HasWidth n)
+      (λ triple _. width-both_rows n same (both_rows same (row pattern.subject (interpretation.subject triple)) (row pattern.predicate (interpretation.predicate triple))) (row pattern.object (interpretation.object triple))
+      (width-both_rows n same (row pattern.subject (interpretation.subject triple)) (row pattern.predicate (interpretation.predicate triple)) (width-place_row pattern.subject (interpretation.subject triple)) (width-place_row pattern.predicate (interpretation.predicate triple)))
+      (width-place_row pattern.object (interpretation.object triple)))
       triples (λ _ _ _. tt)
 
   -- so have the rows of a list of triple patterns, from rows that have
-  width-fold : (patterns : List TriplePat) (triples : List X) (rows : List (Row V)) → All (HasWidth n) rows → All (HasWidth n) (fold (λ rows pattern. join reading.same rows (matches_of reading n pattern triples)) rows patterns)
+  width-fold : (patterns : List TriplePat) (triples : List X) (rows : List (Row V)) → All (HasWidth n) rows → All (HasWidth n) (fold (λ rows pattern. join interpretation.same rows (matches_of interpretation n pattern triples)) rows patterns)
   width-fold [] triples rows h = h
   width-fold (pattern ∷ patterns) triples rows h =
-      width-fold patterns triples (join reading.same rows (matches_of reading n pattern triples)) (width-join n reading.same rows (matches_of reading n pattern triples) h (width-matches_of pattern triples))
+      width-fold patterns triples (join interpretation.same rows (matches_of interpretation n pattern triples)) (width-join n interpretation.same rows (matches_of interpretation n pattern triples) h (width-matches_of pattern triples))
 
   -- the rows of a pattern have n cells
-  pub width-eval : (pattern : Algebra) (triples : List X) → All (HasWidth n) (eval reading n pattern triples)
-  width-eval (Basic patterns) triples = width-fold patterns triples (unbound V n ∷ []) (All-cons (HasWidth n) (unbound V n) [] (width-unbound V n) (All-nil (HasWidth n)))
-  width-eval (Joined left right) triples = width-join n reading.same (eval reading n left triples) (eval reading n right triples) (width-eval left triples) (width-eval right triples)
-  width-eval (Optional left right) triples = width-left_join n reading.same (eval reading n left triples) (eval reading n right triples) (width-eval left triples) (width-eval right triples)
+  pub width-eval : (pattern : Algebra) (triples : List X) → All (HasWidth n) (eval interpretation n pattern triples)
+  width-eval (Bgp patterns) triples = width-fold patterns triples (unbound V n ∷ []) (All-cons (HasWidth n) (unbound V n) [] (width-unbound V n) (All-nil (HasWidth n)))
+  width-eval (Join left right) triples = width-join n interpretation.same (eval interpretation n left triples) (eval interpretation n right triples) (width-eval left triples) (width-eval right triples)
+  width-eval (LeftJoin left right) triples = width-left_join n interpretation.same (eval interpretation n left triples) (eval interpretation n right triples) (width-eval left triples) (width-eval right triples)

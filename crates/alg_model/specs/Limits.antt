@@ -3,19 +3,19 @@ use Rattle.std.specs.Prelude.{◌≡◌, ◌≢◌, ℕ, ◌+◌, ◌<◌, ◌�
 use Rattle.std.specs.List.{range_with_len}
 use Rattle.alg_model.specs.declared.pattern.TriplePat.{TriplePat}
 use Rattle.alg_model.specs.declared.query.Query.{Query}
-use Rattle.alg_model.specs.Pattern.{Algebra, Basic, Joined, Optional, HasVarsBelow, algebra_of}
+use Rattle.alg_model.specs.Pattern.{Algebra, Bgp, Join, LeftJoin, HasVarsBelow, algebra_of}
 
 -- the triple patterns of a pattern, in the order of its text
 abbrev pub triple_patterns : Algebra → List TriplePat
-triple_patterns (Basic list) = list
-triple_patterns (Joined left right) = triple_patterns left ++ triple_patterns right
-triple_patterns (Optional left right) = triple_patterns left ++ triple_patterns right
+triple_patterns (Bgp list) = list
+triple_patterns (Join left right) = triple_patterns left ++ triple_patterns right
+triple_patterns (LeftJoin left right) = triple_patterns left ++ triple_patterns right
 
 -- how many parts of a pattern are optional
 abbrev pub optional_parts : Algebra → ℕ
-optional_parts (Basic list) = 0
-optional_parts (Joined left right) = optional_parts left + optional_parts right
-optional_parts (Optional left right) = optional_parts left + optional_parts right + 1
+optional_parts (Bgp list) = 0
+optional_parts (Join left right) = optional_parts left + optional_parts right
+optional_parts (LeftJoin left right) = optional_parts left + optional_parts right + 1
 
 -- a pattern over n variables keeps the limits: at most 63 parts are optional, and at most 256 triple patterns
 -- are numbered from 1 in the order of the text

@@ -3,7 +3,7 @@ ghost use Rattle.std.specs.Option.{option_to_list};
 ghost use Rattle.std.specs.Cmp.Lexicographic.{pointwise};
 ghost use Rattle.std.specs.List.{filter_map};
 ghost use Rattle.alg_model.specs.Row.{both_rows, merged, join, without_partner, left_join};
-ghost use Rattle.alg_model.specs.Pattern.{Basic, HasVarsBelow, algebra_of};
+ghost use Rattle.alg_model.specs.Pattern.{Bgp, HasVarsBelow, algebra_of};
 ghost use Rattle.alg_model.specs.Eval.{as_terms, place_row, match_of, matches_of, bgp_rows, eval};
 ghost use Rattle.alg_model.specs.Solution.{AreSolutions};
 
@@ -25,7 +25,7 @@ pub fn eval_plain(
     requires each_once { AllPairs (λ t u. t ≢ u) triples.now }
     ensures rows { IfOk result (λ rows. IsPermutation (eval as_terms vars (algebra_of pattern.now) triples.now) rows) }
     ensures width { IfOk result (λ rows. All (λ row. length row ≡ vars) rows) }
-    ensures solutions { (patterns : List TriplePat) → algebra_of pattern.now ≡ Basic patterns →
+    ensures solutions { (patterns : List TriplePat) → algebra_of pattern.now ≡ Bgp patterns →
         IfOk result (AreSolutions as_terms vars patterns triples.now) }
 {
     let rows = pattern_rows(alloc, pattern, vars, triples)?;

@@ -34,11 +34,11 @@ pub enum Pattern {
 }
 
 impl Pattern {
-    ghost use Rattle.alg_model.specs.Pattern.{Joined, Optional, algebra_of};
+    ghost use Rattle.alg_model.specs.Pattern.{Join, LeftJoin, algebra_of};
 
     /// The Join of two patterns. `Err` only where memory runs out, and then both are lost.
     pub fn join(alloc: Global, left: Pattern, right: Pattern) -> Result<Pattern, AllocError>
-        ensures { IfOk result (λ pattern. algebra_of pattern ≡ Joined (algebra_of left) (algebra_of right)) }
+        ensures { IfOk result (λ pattern. algebra_of pattern ≡ Join (algebra_of left) (algebra_of right)) }
     {
         let left = Box::new(alloc, left)?;
         let right = Box::new(alloc, right)?;
@@ -47,7 +47,7 @@ impl Pattern {
 
     /// The LeftJoin of a pattern and an optional part. `Err` only where memory runs out, and then both are lost.
     pub fn left_join(alloc: Global, left: Pattern, right: Pattern) -> Result<Pattern, AllocError>
-        ensures { IfOk result (λ pattern. algebra_of pattern ≡ Optional (algebra_of left) (algebra_of right)) }
+        ensures { IfOk result (λ pattern. algebra_of pattern ≡ LeftJoin (algebra_of left) (algebra_of right)) }
     {
         let left = Box::new(alloc, left)?;
         let right = Box::new(alloc, right)?;

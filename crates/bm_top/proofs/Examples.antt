@@ -1,7 +1,7 @@
 -- Worked examples, by computation: result texts, commands, lines and verdicts.
 use Rattle.std.proofs.Common.{◌≡◌, [], ◌∷◌, ◌++◌, None, Some, Err, false, codes, decimal, refl}
 use Rattle.alg_model.specs.Answers.{AbstractQuery}
-use Rattle.alg_model.specs.Pattern.{Basic}
+use Rattle.alg_model.specs.Pattern.{Bgp}
 use Rattle.query_grammar.specs.declared.words.Word.TheVariants as words
 use Rattle.sparql_parse.specs.declared.fault.QueryFault.TheVariants as faults
 use Rattle.bm_top.specs.Command.{ask, request_of}
@@ -14,7 +14,7 @@ use Rattle.bm_top.specs.Verdict.{answered, refused, within, reading_file, decidi
 abbrev two_columns : AbstractQuery
 two_columns = record {
   names = codes "x" ∷ codes "y" ∷ [];
-  pattern = Basic [];
+  pattern = Bgp [];
   columns = record { 0 = 0 } ∷ record { 0 = 1 } ∷ [];
   distinct = false;
 }

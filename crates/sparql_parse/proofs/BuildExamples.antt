@@ -2,7 +2,7 @@
 use Rattle.std.proofs.Common.{◌≡◌, [], ◌∷◌, map, refl}
 use Rattle.query_tokens.specs.Token.{Lexeme}
 use Rattle.query_grammar.specs.Tree.{Node, TypeNode, Same, NoParts, OptionalPart, NestedPart}
-use Rattle.alg_model.specs.Pattern.{Basic, Joined, Optional}
+use Rattle.alg_model.specs.Pattern.{Bgp, Join, LeftJoin}
 use Rattle.alg_model.specs.Limits.{triple_patterns}
 use Rattle.sparql_parse.specs.Meaning.{Scope, each_first, pattern_of}
 
@@ -10,11 +10,11 @@ abbrev nothing : Scope
 nothing = record { names = []; namespaces = [] }
 
 -- `{ OPTIONAL { } }`
-an_optional_group : pattern_of nothing (record { block = []; parts = OptionalPart [] NoParts [] NoParts }) ≡ Optional (Basic []) (Basic [])
+an_optional_group : pattern_of nothing (record { block = []; parts = OptionalPart [] NoParts [] NoParts }) ≡ LeftJoin (Bgp []) (Bgp [])
 an_optional_group = refl
 
 -- `{ { OPTIONAL { } } }`: the OPTIONAL stays in its group
-an_optional_group_in_a_group : pattern_of nothing (record { block = []; parts = NestedPart [] (OptionalPart [] NoParts [] NoParts) [] NoParts }) ≡ Joined (Basic []) (Optional (Basic []) (Basic []))
+an_optional_group_in_a_group : pattern_of nothing (record { block = []; parts = NestedPart [] (OptionalPart [] NoParts [] NoParts) [] NoParts }) ≡ Join (Bgp []) (LeftJoin (Bgp []) (Bgp []))
 an_optional_group_in_a_group = refl
 
 abbrev a_node : Lexeme → Node

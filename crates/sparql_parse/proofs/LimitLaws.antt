@@ -12,7 +12,7 @@ use Rattle.query_grammar.specs.Tree.{Node, Same, Parts, NoParts, OptionalPart, N
 use Rattle.query_grammar.specs.Grammar.{IsQuery}
 use Rattle.query_grammar.proofs.Counts.{one_if, count-cons}
 use Rattle.alg_model.specs.declared.pattern.TriplePat.{TriplePat}
-use Rattle.alg_model.specs.Pattern.{Algebra, Joined, Optional}
+use Rattle.alg_model.specs.Pattern.{Algebra, Join, LeftJoin}
 use Rattle.alg_model.specs.Limits.{triple_patterns, optional_parts}
 use Rattle.sparql_parse.specs.Faults.{is_object, is_optional}
 use Rattle.sparql_parse.specs.Meaning.{Scope, NodeTriple, Translated, triples_of_block, patterns_from, empty_group, with_block, with_parts, pattern_of}
@@ -76,13 +76,13 @@ module _ (scope : Scope) where
       let inner = with_parts scope (with_block scope (empty_group g.next) block) parts in
       let deep = parts-numbered g.next (with_block scope (empty_group g.next) block) parts (block-numbered g.next (empty_group g.next) block (empty-numbered g.next)) in
       let both = element-numbered m g inner is deep in
-      let behind : Translated = record { pattern = Optional g.pattern inner.pattern; next = inner.next } in
+      let behind : Translated = record { pattern = LeftJoin g.pattern inner.pattern; next = inner.next } in
       parts-numbered m (with_block scope behind next) rest (block-numbered m behind next (record { numbers = both.0; next = both.1 }))
   parts-numbered m g (NestedPart block parts next rest) is =
       let inner = with_parts scope (with_block scope (empty_group g.next) block) parts in
       let deep = parts-numbered g.next (with_block scope (empty_group g.next) block) parts (block-numbered g.next (empty_group g.next) block (empty-numbered g.next)) in
       let both = element-numbered m g inner is deep in
-      let behind : Translated = record { pattern = Joined g.pattern inner.pattern; next = inner.next } in
+      let behind : Translated = record { pattern = Join g.pattern inner.pattern; next = inner.next } in
       parts-numbered m (with_block scope behind next) rest (block-numbered m behind next (record { numbers = both.0; next = both.1 }))
 
   pub group-numbered : (group : Group) → IsNumbered 1 (with_parts scope (with_block scope (empty_group 1) group.block) group.parts)

@@ -4,7 +4,7 @@ use Rattle.query_tokens.specs.Token.{Lexeme}
 use Rattle.query_grammar.specs.Roles.{Labelled}
 use Rattle.query_grammar.specs.Tree.{Node, Columns, AllColumns, Variables, Syntax}
 use Rattle.query_grammar.specs.Grammar.{IsQuery, SpellsQuery}
-use Rattle.alg_model.specs.Pattern.{Algebra, Basic}
+use Rattle.alg_model.specs.Pattern.{Algebra, Bgp}
 use Rattle.query_values.specs.Values.{name_of}
 use Rattle.sparql_parse.specs.Meaning.{Scope, number_of, with_number, empty_group, with_block, with_parts, pattern_of, columns_of}
 use Rattle.sparql_parse.specs.Building.{State, Head, Body, IsBuilt, built, start, with_object, columns_behind, next_settled, no_columns}
@@ -65,7 +65,7 @@ spelled-built scope tree labelled spelled =
     let (t_body, t_flag) = columns-stay scope tree.columns d in
     let head = columns-head scope tree.columns tree.distinct d (distinct-head tree.distinct s refl) in
     let (a, prologue, (b, select, (c, distinct, (e, columns, (f, where_word, group))))) = spelled in
-    let whole = group-whole scope tree.group f [] t (Basic []) group (t_flag ∙ d_flag) (t_body ∙ d_body) in
+    let whole = group-whole scope tree.group f [] t (Bgp []) group (t_flag ∙ d_flag) (t_body ∙ d_body) in
     let end_whole : ends.end.body.whole ≡ pattern_of scope tree.group =
     sym (object-whole scope ends.end.subject ends.end.verb ends.end.body ends.end.object) ∙ ap (λ (x : State). x.body.whole) ends.settled_is ∙ whole in
     let end_head : ends.end.head ≡ t.head = ap (λ (x : State). x.head) ends.settled_is ∙ group-head scope tree.group t in
@@ -87,7 +87,7 @@ spelled-next scope tree labelled spelled =
     let (d_body, d_flag) = distinct-stays tree.distinct start in
     let (t_body, t_flag) = columns-stay scope tree.columns d in
     let (a, prologue, (b, select, (c, distinct, (e, columns, (f, where_word, group))))) = spelled in
-    let next = group-next scope tree.group f [] t (Basic []) group (t_flag ∙ d_flag) (t_body ∙ d_body) in
+    let next = group-next scope tree.group f [] t (Bgp []) group (t_flag ∙ d_flag) (t_body ∙ d_body) in
     ap next_settled ends.run
     ∙ sym (with_object-next scope ends.end.subject ends.end.verb ends.end.body ends.end.object)
     ∙ ap (λ (x : State). x.body.next) ends.settled_is

@@ -10,7 +10,7 @@ use Rattle.query_grammar.specs.Roles.{Labelled, with_role}
 use Rattle.query_grammar.specs.Expecting.{next_step}
 use Rattle.query_grammar.specs.Words.{unsupported_word}
 use Rattle.query_grammar.specs.declared.words.Word.TheVariants as words
-use Rattle.alg_model.specs.Pattern.{Basic}
+use Rattle.alg_model.specs.Pattern.{Bgp}
 use Rattle.query_values.specs.Values.{name_of}
 use Rattle.sparql_parse.specs.declared.fault.QueryFault.TheVariants as faults
 use Rattle.sparql_parse.specs.Names.{names_of, namespace_with, namespace_of, declarations_of}
@@ -41,7 +41,7 @@ at place kind text = record { kind = kind; text = text; at = place }
 -- SELECT * { }
 the_empty_group :
     and_then (query_at_end 12) (read_on first (at 0 kinds.Word (codes "SELECT") ∷ at 7 kinds.Sign (codes "*") ∷ at 9 kinds.Sign (codes "{") ∷ at 11 kinds.Sign (codes "}") ∷ []))
-    ≡ Ok (record { names = []; pattern = Basic []; columns = []; distinct = false })
+    ≡ Ok (record { names = []; pattern = Bgp []; columns = []; distinct = false })
 unfolding read_on read_next next_step terminal_of fault_of names_of declarations_of query_of step
 the_empty_group = refl
 

@@ -5,7 +5,7 @@ use Rattle.query_grammar.specs.Roles.{Labelled}
 use Rattle.query_grammar.specs.Tree.{Node, Property, Same, Parts, NoParts, OptionalPart, NestedPart, Group}
 use Rattle.query_grammar.specs.Grammar.{AreObjects, AreProperties, IsSame, IsBlock, AreParts, IsGroup}
 use Rattle.alg_model.specs.declared.pattern.TriplePat.{TriplePat}
-use Rattle.alg_model.specs.Pattern.{Algebra, Basic, Joined, Optional}
+use Rattle.alg_model.specs.Pattern.{Algebra, Bgp, Join, LeftJoin}
 use Rattle.sparql_parse.specs.Meaning.{Scope, NodeTriple, Translated, triples_of_property, triples_of_same, triples_of_block, patterns_from, empty_group, with_block, with_parts, pattern_of}
 use Rattle.sparql_parse.specs.Building.{State, Head, Body, OpenGroup, new_group, joined_block, pattern_so_far, combined, with_pattern, pattern_at, with_triple}
 use Rattle.sparql_parse.proofs.Runs.{after_object, after_objects, after_property, after_properties, after_same, after_block, after_optional, after_open, after_close, after_inside, after_parts, after_group}
@@ -132,9 +132,9 @@ pub record IsIn (scope : Scope) (t : State) (head : Head) (optional : Bool) (gs 
   pub optional_is : g.optional ≡ optional
   pub pattern_is : pattern_so_far g ≡ so_far.pattern
 
-joined-first : (scope : Scope) (pattern : Algebra) (n : ℕ) (ts : List NodeTriple) → HasFirst ts → joined_block pattern (patterns_from scope n ts) ≡ Joined pattern (Basic (patterns_from scope n ts))
+joined-first : (scope : Scope) (pattern : Algebra) (n : ℕ) (ts : List NodeTriple) → HasFirst ts → joined_block pattern (patterns_from scope n ts) ≡ Join pattern (Bgp (patterns_from scope n ts))
 joined-first scope pattern n ts h =
-    let P : List NodeTriple → Type 0 = λ us. joined_block pattern (patterns_from scope n us) ≡ Joined pattern (Basic (patterns_from scope n us)) in
+    let P : List NodeTriple → Type 0 = λ us. joined_block pattern (patterns_from scope n us) ≡ Join pattern (Bgp (patterns_from scope n us)) in
     subst P (sym h.is) refl
 
 joined-block : (scope : Scope) (pattern : Algebra) (n : ℕ) (block : List Same) → IsFull block →
@@ -240,7 +240,7 @@ module _ (scope : Scope) (head : Head) (whole : Algebra) where
       let deep = parts-within parts (after_block scope block (after_open (after_optional t))) true (g ∷ gs) (with_block scope (empty_group so_far.next) block) parts_full first in
       let e = after_inside scope block parts (after_open (after_optional t)) in
       let closes = close-fresh scope head whole e optional true gs g so_far inner is.optional_is is.pattern_is deep in
-      let behind : Translated = record { pattern = Optional so_far.pattern inner.pattern; next = inner.next } in
+      let behind : Translated = record { pattern = LeftJoin so_far.pattern inner.pattern; next = inner.next } in
       let last = block-within scope head whole (after_close e) optional gs behind next closes next_full in
       parts-within rest (after_block scope next (after_close e)) optional gs (with_block scope behind next) rest_full last
   parts-within (NestedPart block parts next rest) t optional gs so_far (block_full, parts_full, next_full, rest_full) within =
@@ -252,7 +252,7 @@ module _ (scope : Scope) (head : Head) (whole : Algebra) where
       let deep = parts-within parts (after_block scope block (after_open t)) false (g ∷ gs) (with_block scope (empty_group so_far.next) block) parts_full first in
       let e = after_inside scope block parts (after_open t) in
       let closes = close-fresh scope head whole e optional false gs g so_far inner is.optional_is is.pattern_is deep in
-      let behind : Translated = record { pattern = Joined so_far.pattern inner.pattern; next = inner.next } in
+      let behind : Translated = record { pattern = Join so_far.pattern inner.pattern; next = inner.next } in
       let last = block-within scope head whole (after_close e) optional gs behind next closes next_full in
       parts-within rest (after_block scope next (after_close e)) optional gs (with_block scope behind next) rest_full last
 

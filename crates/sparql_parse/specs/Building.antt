@@ -4,7 +4,7 @@ use Rattle.std.specs.Prelude.{◌≡◌, ℕ, ◌+◌, Bool, true, false, if◌t
 use Rattle.query_tokens.specs.Token.{Lexeme}
 use Rattle.query_tokens.specs.declared.token.TokenKind.TheVariants as kinds
 use Rattle.alg_model.specs.declared.pattern.TriplePat.{TriplePat}
-use Rattle.alg_model.specs.Pattern.{Algebra, Basic, Joined, Optional, vars_of}
+use Rattle.alg_model.specs.Pattern.{Algebra, Bgp, Join, LeftJoin, vars_of}
 use Rattle.query_grammar.specs.declared.terminal.Terminal.{Terminal}
 use Rattle.query_grammar.specs.declared.terminal.Terminal.TheVariants as terminals
 use Rattle.query_grammar.specs.declared.syntax.Role.{Role}
@@ -54,12 +54,12 @@ pub record OpenGroup : Type 0 where
   pub optional : Bool
 
 abbrev pub new_group : Bool → OpenGroup
-new_group optional = record { pattern = Basic []; block = []; optional = optional }
+new_group optional = record { pattern = Bgp []; block = []; optional = optional }
 
 -- the pattern with a block behind it, if there is one
 abbrev pub joined_block : Algebra → List TriplePat → Algebra
 joined_block pattern [] = pattern
-joined_block pattern (t ∷ ts) = Joined pattern (Basic (t ∷ ts))
+joined_block pattern (t ∷ ts) = Join pattern (Bgp (t ∷ ts))
 
 abbrev pub pattern_so_far : OpenGroup → Algebra
 pattern_so_far g = joined_block g.pattern g.block
@@ -77,7 +77,7 @@ opened optional b = record b { groups = new_group optional ∷ b.groups }
 
 -- a pattern with that of a group in it: LeftJoin for OPTIONAL, else Join
 abbrev pub combined : Bool → Algebra → Algebra → Algebra
-combined optional left right = if optional then Optional left right else Joined left right
+combined optional left right = if optional then LeftJoin left right else Join left right
 
 abbrev pub with_group : OpenGroup → OpenGroup → OpenGroup
 with_group outer inner =
@@ -182,7 +182,7 @@ no_node = TypeNode (record { kind = kinds.Word; text = codes "a"; at = 0 })
 abbrev pub start : State
 start = record {
   head = no_columns;
-  body = record { groups = []; next = 1; whole = Basic [] };
+  body = record { groups = []; next = 1; whole = Bgp [] };
   optional = false;
   subject = no_node;
   verb = no_node;

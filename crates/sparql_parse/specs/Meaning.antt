@@ -10,7 +10,7 @@ use Rattle.query_tokens.specs.declared.token.TokenKind.TheVariants as kinds
 use Rattle.alg_model.specs.declared.pattern.Place.{Place}
 use Rattle.alg_model.specs.declared.pattern.Place.TheVariants as places
 use Rattle.alg_model.specs.declared.pattern.TriplePat.{TriplePat}
-use Rattle.alg_model.specs.Pattern.{Algebra, Basic, Joined, Optional, vars_of}
+use Rattle.alg_model.specs.Pattern.{Algebra, Bgp, Join, LeftJoin, vars_of}
 use Rattle.query_grammar.specs.Tree.{Node, VariableNode, IriNode, StringNode, TaggedNode, TypedNode, NumberNode, BooleanNode, TypeNode, Property, Same, Parts, NoParts, OptionalPart, NestedPart, Group, Columns, AllColumns, Variables}
 use Rattle.sparql_parse.specs.Names.{Namespace, namespace_of, is_text}
 use Rattle.query_values.specs.Values.{iri_of, prefix_of, prefixed_iri, name_of, plain_literal, tagged_literal, typed_literal, number_literal, boolean_literal, type_iri}
@@ -82,7 +82,7 @@ pub record Translated : Type 0 where
 
 -- a group begins as the empty basic graph pattern
 abbrev pub empty_group : ℕ → Translated
-empty_group n = record { pattern = Basic []; next = n }
+empty_group n = record { pattern = Bgp []; next = n }
 
 module _ (scope : Scope) where
   -- G := Join(G, the basic graph pattern of a block); no block changes nothing
@@ -90,17 +90,17 @@ module _ (scope : Scope) where
   with_block g [] = g
   with_block g (same ∷ block) =
       let triples = triples_of_block (same ∷ block) in
-      record { pattern = Joined g.pattern (Basic (patterns_from scope g.next triples)); next = g.next + length triples }
+      record { pattern = Join g.pattern (Bgp (patterns_from scope g.next triples)); next = g.next + length triples }
 
   -- G := LeftJoin(G, P) for OPTIONAL P, and Join(G, P) for a group P that is only nested
   abbrev pub with_parts : Translated → Parts → Translated
   with_parts g NoParts = g
   with_parts g (OptionalPart block parts next rest) =
       let inner = with_parts (with_block (empty_group g.next) block) parts in
-      with_parts (with_block (record { pattern = Optional g.pattern inner.pattern; next = inner.next }) next) rest
+      with_parts (with_block (record { pattern = LeftJoin g.pattern inner.pattern; next = inner.next }) next) rest
   with_parts g (NestedPart block parts next rest) =
       let inner = with_parts (with_block (empty_group g.next) block) parts in
-      with_parts (with_block (record { pattern = Joined g.pattern inner.pattern; next = inner.next }) next) rest
+      with_parts (with_block (record { pattern = Join g.pattern inner.pattern; next = inner.next }) next) rest
 
   -- the pattern of the query's group
   abbrev pub pattern_of : Group → Algebra

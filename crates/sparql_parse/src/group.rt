@@ -1,6 +1,6 @@
 // The groups of a query that are open, with their patterns so far.
 ghost use Rattle.std.specs.Prelude.{◌≡◌, ◌<◌, ◌^◌, ◌+◌, [], ◌∷◌, IfOk, OnOk};
-ghost use Rattle.alg_model.specs.Pattern.{Basic, algebra_of};
+ghost use Rattle.alg_model.specs.Pattern.{Bgp, algebra_of};
 ghost use Rattle.sparql_parse.specs.Building.{closed, combined, in_innermost, joined_block, new_group, opened, pattern_so_far, with_group};
 ghost use Rattle.sparql_parse.specs.Groups.{body_in, group_in};
 
@@ -28,7 +28,7 @@ pub(crate) struct Body {
 
 // The empty basic graph pattern.
 fn empty_pattern(alloc: Global) -> Pattern
-    ensures { algebra_of result ≡ Basic [] }
+    ensures { algebra_of result ≡ Bgp [] }
 {
     Pattern::Bgp(PatList::new(alloc))
 }
@@ -98,7 +98,7 @@ impl OpenGroup {
 impl Body {
     /// The body of a query before its first token.
     pub(crate) fn new(alloc: Global) -> Body
-        ensures { body_in result ≡ record { groups = []; next = 1; whole = Basic [] } }
+        ensures { body_in result ≡ record { groups = []; next = 1; whole = Bgp [] } }
     {
         Body {
             alloc,
