@@ -1,4 +1,4 @@
--- What the answer of the reader of data says.
+-- Carries proofs only: what the answer of the reader of data says.
 use Rattle.std.specs.Prelude.{◌≡◌, ℕ, List, Some, None, Vec, Result, Ok, Err}
 use Rattle.std.specs.declared.alloc.Global.{Global}
 use Rattle.bm_term.specs.declared.triple.Triple.{Triple}

@@ -1,4 +1,4 @@
--- Two rows of texts are the same exactly where they compare as equal.
+-- Carries proofs only: two rows of texts are the same exactly where they compare as equal.
 use Rattle.std.specs.Prelude.{◌≡◌, ℕ, ◌==◌, List, Option, Some, None, refl}
 use Rattle.std.specs.Option.{option_eq, option_cmp}
 use Rattle.std.specs.Ordering.{eq_by_cmp, nat_cmp}

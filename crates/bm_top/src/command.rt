@@ -1,17 +1,18 @@
 ghost use Rattle.std.specs.Prelude.{◌≡◌, map};
 ghost use Rattle.std.specs.Option.{option_map};
 ghost use Rattle.std.specs.String.{string_bytes};
-ghost use Rattle.bm_top.specs.Command.{request_of, requested};
+ghost use Rattle.bm_top.specs.Command.{request_of};
+ghost use Rattle.bm_top.specs.Requested.{requested};
 
-pub const ASK: &str = "ask";
+const ASK: &str = "ask";
 
-pub const TSV: &str = "tsv";
+const TSV: &str = "tsv";
 
-/// The command that is built: `ask`, with the names of its two files.
+/// The commands that are built, with the names of their files.
 #[derive(Clone, Copy, Debug)]
-pub(crate) struct Command<'a> {
-    pub(crate) data: &'a str,
-    pub(crate) query: &'a str,
+pub(crate) enum Command<'a> {
+    /// Answers the query of one file over the data of another.
+    Ask { data: &'a str, query: &'a str },
 }
 
 /// The command that some words are, if they are a row of the table of commands.
@@ -21,7 +22,7 @@ pub(crate) fn parse_words(words: &[String]) -> Option<Command<'_>>
     match words {
         [command, data, query, form] => {
             if command.as_str() == ASK && form.as_str() == TSV {
-                Some(Command {
+                Some(Command::Ask {
                     data: data.as_str(),
                     query: query.as_str(),
                 })

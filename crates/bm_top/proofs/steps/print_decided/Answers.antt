@@ -1,6 +1,7 @@
+use Rattle.std.proofs.Common.{[], ap}
 use Rattle.bm_world.proofs.Steps.{Step-weaken}
-use Rattle.bm_top.specs.Verdict.{decided}
-use Rattle.bm_top.proofs.StepsDone.{EndsSo-printing}
+use Rattle.bm_top.specs.VerdictOf.{decided}
+use Rattle.bm_top.proofs.StepsDone.{EndsSo-printing, EndsSo-undecided}
 use Rattle.bm_top.proofs.steps.print_decided.Goals as goal
 
 pub returns-in-Ok-clause-step : goal.returns-in-Ok-clause-step
