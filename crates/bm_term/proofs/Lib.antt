@@ -17,3 +17,7 @@ pub mod LowerTags
 pub mod WalkLaws
 pub mod LiteralLaws
 pub mod WrittenTerms
+pub mod Elements
+pub mod Sets
+pub mod TripleOrder
+pub mod GraphExamples

@@ -8,6 +8,7 @@ pub mod Names
 pub mod Parts
 pub mod Reading
 pub mod Repetition
+pub mod SetOf
 pub mod TermRef
 pub mod Text
 pub mod Triple

@@ -8,6 +8,7 @@
 mod class_types;
 mod classes;
 mod escape;
+mod graph;
 mod laws;
 mod names;
 mod reading;
@@ -30,6 +31,7 @@ pub use classes::{
     is_scalar, is_sparql_label_first, is_sparql_pn_chars, is_sparql_pn_chars_u,
 };
 pub use escape::{echar_value, escape_letter, push_spelling, unescape};
+pub use graph::{compare_triples, each_list_has_one_graph};
 pub use laws::{
     all_is_kept_without_a_limit, each_term_has_its_own_text, lists_are_taken_in_a_row,
     parts_are_the_term,
