@@ -1,15 +1,18 @@
 -- Words and files have exactly one verdict: the one that the function gives.
-use Rattle.std.proofs.Common.{◌≡◌, ◌≢◌, inl, inr, ℕ, ◌<◌, ◌≤◌, ◌⊎◌, true, nat_lt, if◌then◌else◌, List, ◌++◌, length, Option, Some, None, Result, Ok, Err, refl, sym, ap, subst, ◌∙◌, arith}
+use Rattle.std.proofs.Common.{◌≡◌, ◌≢◌, ◌↔◌, inl, inr, ℕ, ◌<◌, ◌≤◌, ◌⊎◌, true, nat_lt, if◌then◌else◌, List, ◌++◌, length, Option, Some, None, Result, Ok, Err, refl, sym, ap, subst, ◌∙◌, arith}
 use Rattle.std.specs.FinMap.{get}
 use Rattle.std.proofs.lemmas.Bool.{le-ltb, cases_lt}
 use Rattle.std.proofs.lemmas.Grind.{common_steps}
 use Rattle.bm_term.specs.declared.triple.Triple.{Triple}
-use Rattle.bm_term.specs.Graph.{graph_of}
+use Rattle.bm_term.specs.Graph.{triple_cmp, IsGraph, graph_of}
+use Rattle.bm_term.proofs.Sets.{IsSetOf-set_of}
+use Rattle.bm_term.proofs.TripleOrder.{triple_cmp-total, triple_cmp-exact}
 use Rattle.nt_read.specs.Lines.{first_bad, lines_of, triples_of, SpellTriples}
 use Rattle.nt_read.proofs.Cuts.{AreLines-lines_of}
 use Rattle.nt_read.proofs.FirstBad.{first_bad-found, first_bad-none}
 use Rattle.nt_read.proofs.SpelledTriples.{spelled-triples_of}
-use Rattle.alg_model.specs.Answers.{AbstractQuery, answers_to}
+use Rattle.alg_model.specs.Answers.{answers_to}
+use Rattle.alg_model.specs.Query.{AbstractQuery}
 use Rattle.sparql_parse.specs.declared.fault.QueryFault.{QueryFault}
 use Rattle.sparql_parse.specs.Reading.{query_reading}
 use Rattle.sparql_parse.proofs.DenotingLaws.{reading-denotes, denotes-reading, reading-is_fault, fault-reading}
@@ -53,11 +56,17 @@ decided-by bytes text bad reading is read = ap (λ b. deciding b (lines_of bytes
 abbrev answer_text : AbstractQuery → List Triple → List ℕ
 answer_text query triples = tsv_text query (answers_to query (graph_of triples))
 
+-- a list of triples has one graph
+graph-is : (triples graph : List Triple) → IsGraph triples graph ↔ (graph ≡ graph_of triples)
+graph-is = IsSetOf-set_of triple_cmp triple_cmp-total triple_cmp-exact
+
 answer-decided : (bytes text printed : List ℕ) → IsAnswer bytes text printed → decided bytes text ≡ answered printed
 answer-decided bytes text printed is =
     let read = triples-read bytes is.triples is.are_triples in
+    let same : is.graph ≡ graph_of is.triples = (graph-is is.triples is.graph).0 is.is_graph in
     decided-by bytes text None (Ok is.query) read.none (denotes-reading text is.query is.denoted)
     ∙ ap (λ ts. answered (answer_text is.query ts)) (sym read.are)
+    ∙ ap (λ graph. answered (tsv_text is.query (answers_to is.query graph))) (sym same)
     ∙ ap answered (sym is.is_text)
 
 bad_line-decided : (bytes text line : List ℕ) → IsBadData bytes line → decided bytes text ≡ refused 2 line
@@ -78,8 +87,10 @@ refusal-decided bytes text line is = refused-decided bytes text line is.triples 
 answer-read : (bytes text : List ℕ) (query : AbstractQuery) → first_bad bytes ≡ None → query_reading text ≡ Ok query → IsAnswer bytes text (answer_text query (triples_of (lines_of bytes)))
 answer-read bytes text query none is = record {
   triples = triples_of (lines_of bytes);
+  graph = graph_of (triples_of (lines_of bytes));
   query = query;
   are_triples = read-triples bytes none;
+  is_graph = (graph-is (triples_of (lines_of bytes)) (graph_of (triples_of (lines_of bytes)))).1 refl;
   denoted = reading-denotes text query is;
   is_text = refl;
 }

@@ -4,9 +4,10 @@
 use Rattle.std.specs.Prelude.{◌≡◌, ◌⊎◌, ℕ, ◌<◌, ◌≤◌, List, ◌++◌, length, None, Some}
 use Rattle.std.specs.FinMap.{get}
 use Rattle.bm_term.specs.declared.triple.Triple.{Triple}
-use Rattle.bm_term.specs.Graph.{graph_of}
+use Rattle.bm_term.specs.Graph.{IsGraph}
 use Rattle.nt_read.specs.Lines.{AreLines, IsFirstBadLine, SpellTriples}
-use Rattle.alg_model.specs.Answers.{AbstractQuery, answers_to}
+use Rattle.alg_model.specs.Answers.{answers_to}
+use Rattle.alg_model.specs.Query.{AbstractQuery}
 use Rattle.sparql_parse.specs.Denotes.{Denotes, IsFaultOf}
 use Rattle.bm_world.specs.Meanings.{Files}
 use Rattle.bm_top.specs.declared.refusal.QueryRefusal.{QueryRefusal}
@@ -25,10 +26,12 @@ pub record AreNTriples (bytes : List ℕ) (triples : List Triple) : Type 0 where
 -- the text of the solutions of a query over the set of triples of the data
 pub record IsAnswer (bytes text printed : List ℕ) : Type 0 where
   pub triples : List Triple
+  pub graph : List Triple
   pub query : AbstractQuery
   pub are_triples : AreNTriples bytes triples
+  pub is_graph : IsGraph triples graph
   pub denoted : Denotes text query
-  pub is_text : printed ≡ tsv_text query (answers_to query (graph_of triples))
+  pub is_text : printed ≡ tsv_text query (answers_to query graph)
 
 -- the line of the first bad line of the data
 pub record IsBadData (bytes line : List ℕ) : Type 0 where

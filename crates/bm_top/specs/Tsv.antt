@@ -3,7 +3,7 @@
 use Rattle.std.specs.Prelude.{ℕ, List, [], ◌∷◌, ◌++◌, map, Option, Some, None, slice_index_or}
 use Rattle.std.specs.List.{flat_map, join_with_byte}
 use Rattle.alg_model.specs.declared.var.Var.{Var}
-use Rattle.alg_model.specs.Answers.{AbstractQuery}
+use Rattle.alg_model.specs.Query.{AbstractQuery}
 use Rattle.alg_model.specs.Row.{Row}
 
 -- TAB, LF and the question mark

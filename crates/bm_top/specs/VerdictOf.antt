@@ -2,7 +2,8 @@
 use Rattle.std.specs.Prelude.{ℕ, List, [], ◌++◌, Option, Some, None, Result, Ok, Err, nat_lt, length, if◌then◌else◌}
 use Rattle.std.specs.FinMap.{get}
 use Rattle.bm_term.specs.Graph.{graph_of}
-use Rattle.alg_model.specs.Answers.{AbstractQuery, answers_to}
+use Rattle.alg_model.specs.Answers.{answers_to}
+use Rattle.alg_model.specs.Query.{AbstractQuery}
 use Rattle.nt_read.specs.Lines.{first_bad, lines_of, triples_of}
 use Rattle.sparql_parse.specs.Reading.{query_reading}
 use Rattle.sparql_parse.specs.declared.fault.QueryFault.{QueryFault}

@@ -1,5 +1,5 @@
 ghost use Rattle.std.specs.Prelude.{◌≡◌, ◌<◌, ◌∷◌, ◌++◌, if◌then◌else◌, All, length, IfOk, OnOk};
-ghost use Rattle.alg_model.specs.Answers.{abstract_of};
+ghost use Rattle.alg_model.specs.Query.{abstract_of};
 ghost use Rattle.bm_top.specs.Tsv.{tab, cell_text, marked_name, tsv_header, tsv_row, tsv_text};
 
 use crate::answer_row::AnswerRow;
