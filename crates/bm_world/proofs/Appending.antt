@@ -1,4 +1,4 @@
--- A text that is said by several calls, each of which takes some of what is left.
+-- A text that is written by several calls, each of which takes some of what is left.
 use Rattle.std.proofs.Common.{◌≡◌, ℕ, ◌+◌, ◌==◌, true, List, ◌++◌, length, take, drop, Option, sym, ◌∙◌, ap, append_assoc, take-append-drop}
 use Rattle.std.proofs.lemmas.List.{append-nil, nil_from_length}
 use Rattle.std.proofs.lemmas.Bool.{eqb-true}
@@ -11,7 +11,7 @@ use Rattle.bm_world.proofs.Steps.{Step-then, Step-weaken}
 abbrev pub IsAppending : (Meanings → List ℕ → Meanings) → Type 0
 IsAppending change = (m : Meanings) (a b : List ℕ) → change (change m a) b ≡ change m (a ++ b)
 
--- printing and complaining append
+-- what is written to standard output, and to standard error, is put after the rest
 pub printed_appends : IsAppending with_printed
 printed_appends m a b = ap (λ (text : List ℕ). record m { printed = text }) (append_assoc m.printed a b)
 

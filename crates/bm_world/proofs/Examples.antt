@@ -1,24 +1,26 @@
 -- What the definitions say of small cases.
-use Rattle.std.proofs.Common.{◌≡◌, ℕ, ◌-◌, ◌^◌, [], ◌∷◌, true, false, None, Some, Ok, Err, codes, refl, lit≤, arith}
+use Rattle.std.proofs.Common.{◌≡◌, ℕ, ◌-◌, ◌^◌, [], ◌∷◌, true, false, None, Some, Ok, Err, codes, ⊎_elim, inl, inr, refl, subst, lit<, lit≤, arith, ◌<◌, length, IsSomeAnd, List}
 use Rattle.std.specs.Cmp.Lexicographic.{nat_list_cmp_total}
 use Rattle.std.specs.FinMap.{get-insert}
 use Rattle.bm_world.specs.declared.reading.ReadEnd.TheVariants.{TooLong}
 use Rattle.bm_world.specs.declared.schedule.WorldCall.TheVariants.{Print, Complain}
-use Rattle.bm_world.specs.Meanings.{Meanings, nothing_yet, file_at, with_begun, with_printed, with_written}
+use Rattle.bm_world.specs.Meanings.{Meanings, nothing_yet, file_at, with_opened, with_begun, with_printed, with_written}
 use Rattle.bm_world.specs.World.{Step, Rose, AppendsAll}
-use Rattle.bm_world.specs.Reading.{IsReadingOf}
+use Rattle.bm_world.specs.Reading.{ReadsAll, buffer_bytes}
+use Rattle.bm_world.specs.declared.reading.TheConstants.{BUFFER}
 use Rattle.bm_world.specs.Schedule.{is_due, after_call}
 use Rattle.bm_world.specs.MemWorld.{raised, Ends}
+use Rattle.bm_world.proofs.WholeFile.{ReadsAll-longer}
 
--- a count rises by one or more, and at its last value it may stand still
+-- a count rises by one or more, and at its last value it may stay as it is
 rose_by_one : Rose 3 4
-rose_by_one = lit≤ tt
+rose_by_one = inl (lit< tt)
 
 rose_at_the_last : Rose (2 ^ 64 - 1) (2 ^ 64 - 1)
-rose_at_the_last = lit≤ tt
+rose_at_the_last = inr refl
 
 not_risen : Rose 3 3 → ⊥
-not_risen rose = omega arith
+not_risen rose = ⊎_elim (λ more. omega arith) (λ last. omega arith) rose
 
 -- a world that tells nothing doesn't tell again
 not_told_again : (m : Meanings) (R : Meanings → Meanings → Type 0) → Step None (Some m) R → ⊥
@@ -41,12 +43,22 @@ begun_is_empty = get-insert nat_list_cmp_total _ (codes "f") [] (codes "f")
 not_written : with_written nothing_yet (codes "ab") ≡ nothing_yet
 not_written = refl
 
--- of three bytes, a limit of two is passed, and a limit of three isn't
-past_the_limit : IsReadingOf (Some (codes "abc")) 2 (Err TooLong)
-past_the_limit = lit≤ tt
+-- two files are opened, one after the other
+opened_twice : (with_opened (with_opened nothing_yet (codes "f") None) (codes "g") None).opened ≡ codes "f" ∷ codes "g" ∷ []
+opened_twice = refl
 
-within_the_limit : IsReadingOf (Some (codes "abc")) 3 (Err TooLong) → ⊥
-within_the_limit longer = omega arith
+-- the code's buffer is that of the definitions
+same_buffer : BUFFER ≡ buffer_bytes
+same_buffer = refl
+
+-- of three bytes, a limit of two is passed, and a limit of three isn't
+past_the_limit : (m : Meanings) (name : List ℕ) → file_at m name ≡ Some (codes "abc") → ReadsAll name 2 (Err TooLong) m (with_opened m name (Some []))
+past_the_limit m name is = (codes "abc", (record { left = []; whole = is; moved = refl; within = lit≤ tt }, lit< tt))
+
+within_the_limit : (m n : Meanings) (name : List ℕ) → file_at m name ≡ Some (codes "abc") → ReadsAll name 3 (Err TooLong) m n → ⊥
+within_the_limit m n name is reads =
+    let longer : 3 < 3 = subst (λ file. IsSomeAnd file (λ bytes. 3 < length bytes)) is (ReadsAll-longer name 3 m n reads) in
+    omega arith
 
 -- the second print fails, whatever else is called between
 due_at_the_second : is_due Print (after_call Complain (after_call Print ((Print, 2) ∷ []))) ≡ true

@@ -1,5 +1,5 @@
 -- What holds over several calls of a world.
-use Rattle.std.proofs.Common.{◌≡◌, ℕ, ◌≤◌, Option, None, Some, refl, subst, arith}
+use Rattle.std.proofs.Common.{◌≡◌, ℕ, ◌≤◌, Option, None, Some, ⊎_elim, inl, inr, refl, subst, arith}
 use Rattle.bm_world.specs.Meanings.{Meanings}
 use Rattle.bm_world.specs.World.{Step, Rose}
 
@@ -41,4 +41,4 @@ Step-told {m} {n} {R} moved = record {
 
 -- a count that did not fall before rose over all
 pub rose_later : {before mid now : ℕ} → before ≤ mid → Rose mid now → Rose before now
-rose_later later rose = omega arith
+rose_later later rose = ⊎_elim (λ more. inl (omega arith)) (λ last. inr last) rose

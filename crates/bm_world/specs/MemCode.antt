@@ -3,6 +3,7 @@ use Rattle.std.specs.Prelude.{ℕ, List, Option, refl}
 use Rattle.std.specs.Coded.{Coded, code_by, coded×, coded_ℕ, coded_list, coded_option}
 use Rattle.std.specs.FinMap.{code}
 use Rattle.bm_world.specs.contracts.schedule.WorldCall.{the_row}
+use Rattle.bm_world.specs.declared.world.Faults.{Faults}
 use Rattle.bm_world.specs.Meanings.{Files, Meanings}
 use Rattle.bm_world.specs.Schedule.{Schedule}
 use Rattle.bm_world.specs.MemWorld.{MemState}
@@ -18,22 +19,31 @@ schedule_code = coded_list (coded× the_row.coded coded_ℕ)
 
 abbrev meanings_code : Coded Meanings
 meanings_code = code_by
-    (Files × (Option (List ℕ) × (Option (List ℕ) × (List ℕ × List ℕ))))
-    (coded× (code bytes_code bytes_code) (coded× text_code (coded× text_code (coded× bytes_code bytes_code))))
-    (λ m. (m.files, (m.rest, (m.made, (m.printed, m.complained)))))
-    (λ p. record { files = p.0; rest = p.1.0; made = p.1.1.0; printed = p.1.1.1.0; complained = p.1.1.1.1 })
+    (Files × (List (List ℕ) × (Option (List ℕ) × (Option (List ℕ) × (List ℕ × List ℕ)))))
+    (coded× (code bytes_code bytes_code) (coded× (coded_list bytes_code) (coded× text_code (coded× text_code (coded× bytes_code bytes_code)))))
+    (λ m. (m.files, (m.opened, (m.rest, (m.made, (m.printed, m.complained))))))
+    (λ p. record {
+      files = p.0;
+      opened = p.1.0;
+      rest = p.1.1.0;
+      made = p.1.1.1.0;
+      printed = p.1.1.1.1.0;
+      complained = p.1.1.1.1.1;
+    })
+    (λ _. refl)
+
+abbrev faults_code : Coded Faults
+faults_code = code_by
+    (ℕ × (ℕ × ℕ))
+    (coded× coded_ℕ (coded× coded_ℕ coded_ℕ))
+    (λ f. (f.reads, (f.writes, f.says)))
+    (λ p. record { reads = p.0; writes = p.1.0; says = p.1.1 })
     (λ _. refl)
 
 abbrev pub state_code : Coded MemState
 state_code = code_by
-    (Meanings × (ℕ × (ℕ × (ℕ × Schedule))))
-    (coded× meanings_code (coded× coded_ℕ (coded× coded_ℕ (coded× coded_ℕ schedule_code))))
-    (λ s. (s.meanings, (s.read_faults, (s.write_faults, (s.say_faults, s.schedule)))))
-    (λ p. record {
-      meanings = p.0;
-      read_faults = p.1.0;
-      write_faults = p.1.1.0;
-      say_faults = p.1.1.1.0;
-      schedule = p.1.1.1.1;
-    })
+    (Meanings × (Faults × Schedule))
+    (coded× meanings_code (coded× faults_code schedule_code))
+    (λ s. (s.meanings, (s.faults, s.schedule)))
+    (λ p. record { meanings = p.0; faults = p.1.0; schedule = p.1.1 })
     (λ _. refl)

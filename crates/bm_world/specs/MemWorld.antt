@@ -2,14 +2,13 @@
 use Rattle.std.specs.Prelude.{◌≡◌, ℕ, ◌+◌, ◌-◌, ◌^◌, ◌==◌, if◌then◌else◌, Bool, true, false, List, Result, Ok, Err}
 use Rattle.std.specs.FinMap.{insert}
 use Rattle.bm_world.specs.declared.world.Failed.{Failed}
+use Rattle.bm_world.specs.declared.world.Faults.{Faults}
 use Rattle.bm_world.specs.Meanings.{Meanings}
 use Rattle.bm_world.specs.Schedule.{Schedule}
 
 pub record MemState : Type 0 where
   pub meanings : Meanings
-  pub read_faults : ℕ
-  pub write_faults : ℕ
-  pub say_faults : ℕ
+  pub faults : Faults
   -- the calls that are to fail
   pub schedule : Schedule
 

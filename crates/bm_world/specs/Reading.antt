@@ -1,19 +1,26 @@
--- What reading a whole file gives.
-use Rattle.std.specs.Prelude.{◌≡◌, ℕ, ◌<◌, List, Option, Some, Vec, Result, Ok, Err, IsSomeAnd, length}
+-- What reading a whole file gives, and what it leaves to read.
+use Rattle.std.specs.Prelude.{◌≡◌, ◌⊎◌, ℕ, ◌+◌, ◌<◌, ◌≤◌, List, [], ◌++◌, None, Some, Vec, Result, Ok, Err, length}
 use Rattle.std.specs.declared.alloc.Global.{Global}
 use Rattle.bm_world.specs.declared.reading.ReadEnd.{ReadEnd}
 use Rattle.bm_world.specs.declared.reading.ReadEnd.TheVariants.{Fault, TooLong, Memory}
-use Rattle.bm_world.specs.Meanings.{Meanings, file_at}
+use Rattle.bm_world.specs.Meanings.{Meanings, file_at, with_opened}
 
--- what an answer says of the file: these are all its bytes, or it has more than the limit
-abbrev pub IsReadingOf : Option (List ℕ) → ℕ → Result (Vec ℕ Global) ReadEnd → Type 0
-IsReadingOf file limit (Ok bytes) = file ≡ Some bytes.items
-IsReadingOf file limit (Err TooLong) = IsSomeAnd file (λ bytes. limit < length bytes)
-IsReadingOf file limit (Err Fault) = Unit {0}
-IsReadingOf file limit (Err Memory) = Unit {0}
+-- how many bytes come at once, at most
+abbrev pub buffer_bytes : ℕ
+buffer_bytes = 65536
 
--- the answer is so of the named file, and only what is left to read has changed
-pub record ReadsAll (name : List ℕ) (limit : ℕ) (result : Result (Vec ℕ Global) ReadEnd)
-    (m n : Meanings) : Type 0 where
-  pub answer : IsReadingOf (file_at m name) limit result
-  pub only_rest : n ≡ record m { rest = n.rest }
+-- The named file was opened. These bytes of it have come, and the others are left to read.
+-- No more come after the limit than one buffer.
+pub record ReadsUpTo (name came : List ℕ) (limit : ℕ) (m n : Meanings) : Type 0 where
+  pub left : List ℕ
+  pub whole : file_at m name ≡ Some (came ++ left)
+  pub moved : n ≡ with_opened m name (Some left)
+  pub within : length came ≤ limit + buffer_bytes
+
+-- All bytes of the named file have come, or more than the limit.
+-- After a fault or for want of memory some have come; where the file was not opened, nothing is open.
+abbrev pub ReadsAll : List ℕ → ℕ → Result (Vec ℕ Global) ReadEnd → Meanings → Meanings → Type 0
+ReadsAll name limit (Ok bytes) m n = (file_at m name ≡ Some bytes.items) × (n ≡ with_opened m name (Some []))
+ReadsAll name limit (Err TooLong) m n = (came : List ℕ) × (ReadsUpTo name came limit m n × (limit < length came))
+ReadsAll name limit (Err Memory) m n = (came : List ℕ) × ReadsUpTo name came limit m n
+ReadsAll name limit (Err Fault) m n = (n ≡ record m { rest = None }) ⊎ ((came : List ℕ) × ReadsUpTo name came limit m n)

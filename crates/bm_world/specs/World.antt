@@ -1,7 +1,8 @@
 -- What each call of a world moves, and what shows that it failed.
-use Rattle.std.specs.Prelude.{◌≡◌, ◌⊎◌, ℕ, ◌+◌, ◌-◌, ◌^◌, ◌<◌, ◌≤◌, min, List, [], ◌++◌, length, take, Option, None, Some, Result, Ok, Err, IsSome, IsSomeAnd, OnOk, OnErr}
+use Rattle.std.specs.Prelude.{◌≡◌, ◌⊎◌, ℕ, ◌-◌, ◌^◌, ◌<◌, ◌≤◌, List, [], ◌++◌, length, take, Option, None, Some, Result, Ok, Err, IsSome, IsSomeAnd, OnOk, OnErr}
 use Rattle.bm_world.specs.declared.world.Failed.{Failed}
-use Rattle.bm_world.specs.Meanings.{Meanings, file_at, with_begun, with_written}
+use Rattle.bm_world.specs.declared.world.Faults.{Faults}
+use Rattle.bm_world.specs.Meanings.{Meanings, file_at, with_opened, with_begun, with_written}
 
 -- R holds between the entry of a call and its exit, where the world tells its meanings at both.
 -- A world that tells nothing doesn't tell again.
@@ -9,9 +10,13 @@ pub record Step (old new : Option Meanings) (R : Meanings → Meanings → Type 
   pub silent : old ≡ None → new ≡ None
   pub moves : (m n : Meanings) → old ≡ Some m → new ≡ Some n → R m n
 
--- The count is greater now, or stands still at the last value of a u64.
+-- before any call has failed
+abbrev pub no_faults : Faults
+no_faults = record { reads = 0; writes = 0; says = 0 }
+
+-- The count is greater now, or is at the last value of a u64.
 abbrev pub Rose : ℕ → ℕ → Type 0
-Rose before now = min (before + 1) (2 ^ 64 - 1) ≤ now
+Rose before now = (before < now) ⊎ (now ≡ 2 ^ 64 - 1)
 
 -- The count doesn't fall, and a call that fails raised it, or its case was told and is a failure.
 pub record HasCause {T : Type 0} (before now : ℕ)
@@ -40,9 +45,9 @@ NothingIsMade m = m.made ≡ None
 
 -- What the calls move.
 
--- the whole of the named file is left to read; after a failure nothing is open
+-- the named file was opened, and the whole of it is left to read; after a failure nothing is open
 abbrev pub Opens : List ℕ → Result (Unit {0}) Failed → Meanings → Meanings → Type 0
-Opens name (Ok _) m n = IsSome (file_at m name) × (n ≡ record m { rest = file_at m name })
+Opens name (Ok _) m n = IsSome (file_at m name) × (n ≡ with_opened m name (file_at m name))
 Opens name (Err _) m n = n ≡ record m { rest = None }
 
 -- The first bytes of what was left have come into the front of the buffer.

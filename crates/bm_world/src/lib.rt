@@ -1,6 +1,6 @@
-//! The outside of the program as a trait: files that are read and made, what is printed, and what
-//! is complained. A contract over any `World` says which bytes came from a file and which went out,
-//! where the world tells its content, and what shows that a call failed, where it doesn't.
+//! The outside of the program as a trait: files that are read and made, standard output and standard
+//! error. A contract over any `World` says which bytes came from a file and which went out, where the
+//! world tells its content, and what shows that a call failed, where it doesn't.
 #![tactic(auto)]
 
 mod file_table;
@@ -15,7 +15,7 @@ pub use mem_world::MemWorld;
 pub use reading::{ReadEnd, read_all};
 pub use saying::{complain_all, print_all};
 pub use schedule::WorldCall;
-pub use world::{Failed, World};
+pub use world::{Failed, Faults, World};
 
 #[cfg(test)]
 mod tests;

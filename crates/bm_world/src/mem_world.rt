@@ -1,16 +1,17 @@
 // A world in memory.
-ghost use Rattle.std.specs.Prelude.{◌≡◌, ◌++◌, [], ◌∷◌, None, Some, IfOk, OnOk, OnErr, IsSome, IsOk, string_bytes, min, length, take, drop, is_some, is_none, is_ok, false, if◌then◌else◌};
+ghost use Rattle.std.specs.Prelude.{◌≡◌, ◌++◌, [], ◌∷◌, None, Some, IfOk, OnOk, OnErr, IsSome, IsOk, string_bytes, min, length, map, take, drop, is_some, is_none, is_ok, false, if◌then◌else◌};
 ghost use Rattle.std.specs.Option.{option_copied, option_map};
 ghost use Rattle.std.specs.Result.{result_unwrap_or};
-ghost use Rattle.std.specs.FinMap as map;
-ghost use Rattle.bm_world.specs.Meanings.{nothing_yet, file_at, left_to_read, with_begun, with_written, with_printed, with_complained};
+ghost use Rattle.std.specs.FinMap as fin_map;
+ghost use Rattle.bm_world.specs.Meanings.{nothing_yet, file_at, left_to_read, with_opened, with_begun, with_written, with_printed, with_complained};
+ghost use Rattle.bm_world.specs.World.{no_faults};
 ghost use Rattle.bm_world.specs.Schedule.{is_due, after_call};
 ghost use Rattle.bm_world.specs.MemWorld.{with_file, raised, Ends};
 
 use crate::file_table::FileTable;
 use crate::open_file::OpenFile;
 use crate::schedule::Schedule;
-use crate::{Failed, World, WorldCall};
+use crate::{Failed, Faults, World, WorldCall};
 use std::alloc::{AllocError, Global};
 use std::marker::Model;
 
@@ -21,18 +22,17 @@ use std::marker::Model;
 pub struct MemWorld {
     alloc: Global,
     files: FileTable,
+    opened: Vec<String>,
     open_file: Option<OpenFile>,
     made: Option<String>,
     printed: Vec<u8>,
     complained: Vec<u8>,
-    read_faults: u64,
-    write_faults: u64,
-    say_faults: u64,
+    faults: Faults,
     schedule: Schedule,
 }
 
 impl Model for MemWorld {
-    ghost use Rattle.std.specs.Prelude.{string_bytes};
+    ghost use Rattle.std.specs.Prelude.{map, string_bytes};
     ghost use Rattle.std.specs.Option.{option_map};
     ghost use Rattle.bm_world.specs.MemWorld.{MemState};
     ghost use Rattle.bm_world.specs.MemCode.{state_code};
@@ -44,39 +44,39 @@ impl Model for MemWorld {
     ghost view = { λ w. record {
       meanings = record {
         files = w.files;
+        opened = map string_bytes w.opened.items;
         rest = w.open_file;
         made = option_map string_bytes w.made;
         printed = w.printed.items;
         complained = w.complained.items;
       };
-      read_faults = w.read_faults;
-      write_faults = w.write_faults;
-      say_faults = w.say_faults;
+      faults = w.faults;
       schedule = w.schedule;
     } };
 }
 
 impl MemWorld {
-    /// A world with no files, nothing open, no file being made, nothing said and no faults.
+    /// A world with no files, nothing open, no file being made, nothing written and no faults.
     pub fn new(alloc: Global) -> Self
         ensures { result ≡ record {
           meanings = nothing_yet;
-          read_faults = 0;
-          write_faults = 0;
-          say_faults = 0;
+          faults = no_faults;
           schedule = [];
         } }
     {
         MemWorld {
             alloc,
             files: FileTable::new(alloc),
+            opened: Vec::new(alloc),
             open_file: None,
             made: None,
             printed: Vec::new(alloc),
             complained: Vec::new(alloc),
-            read_faults: 0,
-            write_faults: 0,
-            say_faults: 0,
+            faults: Faults {
+                reads: 0,
+                writes: 0,
+                says: 0,
+            },
             schedule: Schedule::new(alloc),
         }
     }
@@ -106,14 +106,21 @@ impl MemWorld {
         self.files.get(name)
     }
 
-    /// All that was printed.
+    /// The names of the files that were opened, in order.
+    pub fn opened(&self) -> &[String]
+        ensures { map string_bytes result.now ≡ self.now.meanings.opened }
+    {
+        self.opened.as_slice()
+    }
+
+    /// All that was written to standard output.
     pub fn printed(&self) -> &[u8]
         ensures { result.now ≡ self.now.meanings.printed }
     {
         self.printed.as_slice()
     }
 
-    /// All that was complained.
+    /// All that was written to standard error.
     pub fn complained(&self) -> &[u8]
         ensures { result.now ≡ self.now.meanings.complained }
     {
@@ -123,49 +130,48 @@ impl MemWorld {
     /// The three counts: of `open` and `read`, of `create`, `write`, `close` and `print`, and of
     /// `complain`.
     pub fn faults(&self) -> (u64, u64, u64)
-        ensures { result ≡ (self.now.read_faults, self.now.write_faults, self.now.say_faults) }
+        ensures { let faults = self.now.faults in result ≡ (faults.reads, faults.writes, faults.says) }
     {
-        (self.read_faults, self.write_faults, self.say_faults)
+        (self.faults.reads, self.faults.writes, self.faults.says)
     }
 }
 
 impl World for MemWorld {
     ghost told = { λ w. Some w.meanings };
 
-    ghost read_faults = { λ w. w.read_faults };
-
-    ghost write_faults = { λ w. w.write_faults };
-
-    ghost say_faults = { λ w. w.say_faults };
+    ghost faults = { λ w. w.faults };
 
     fn open(&mut self, name: &str) -> Result<(), Failed>
         ensures ends { Ends (is_due WorldCall.Open self.old.schedule)
-            (is_none (file_at self.old.meanings name.now)) result self.old.read_faults self.new.read_faults }
+            (is_none (file_at self.old.meanings name.now)) result self.old.faults.reads self.new.faults.reads }
         ensures exact { self.new ≡ record self.old {
-          meanings = record self.old.meanings {
-            rest = if is_ok result then file_at self.old.meanings name.now else None;
-          };
-          read_faults = self.new.read_faults;
+          meanings = if is_ok result
+              then with_opened self.old.meanings name.now (file_at self.old.meanings name.now)
+              else record self.old.meanings { rest = None };
+          faults = record self.old.faults { reads = self.new.faults.reads };
           schedule = after_call WorldCall.Open self.old.schedule;
         } }
     {
         self.open_file = None;
         if self.schedule.pass(WorldCall::Open) {
-            return Err(raise(&mut self.read_faults));
+            return Err(raise(&mut self.faults.reads));
         }
         let Some(bytes) = self.files.get(name) else {
             return Err(Failed);
         };
         let Ok(copy) = Vec::from_slice(self.alloc, bytes) else {
-            return Err(raise(&mut self.read_faults));
+            return Err(raise(&mut self.faults.reads));
         };
+        if push_name(self.alloc, &mut self.opened, name).is_err() {
+            return Err(raise(&mut self.faults.reads));
+        }
         self.open_file = Some(OpenFile::new(copy));
         Ok(())
     }
 
     fn read(&mut self, into: &mut [u8]) -> Result<usize, Failed>
         ensures ends { Ends (is_due WorldCall.Read self.old.schedule)
-            (is_none self.old.meanings.rest) result self.old.read_faults self.new.read_faults }
+            (is_none self.old.meanings.rest) result self.old.faults.reads self.new.faults.reads }
         ensures no_memory { is_due WorldCall.Read self.old.schedule ≡ false
             → IsSome self.old.meanings.rest → IsOk result }
         ensures count { IfOk result (λ count.
@@ -176,12 +182,12 @@ impl World for MemWorld {
           meanings = record self.old.meanings {
             rest = option_map (drop (result_unwrap_or result 0)) self.old.meanings.rest;
           };
-          read_faults = self.new.read_faults;
+          faults = record self.old.faults { reads = self.new.faults.reads };
           schedule = after_call WorldCall.Read self.old.schedule;
         } }
     {
         if self.schedule.pass(WorldCall::Read) {
-            return Err(raise(&mut self.read_faults));
+            return Err(raise(&mut self.faults.reads));
         }
         match &mut self.open_file {
             Some(file) => Ok(file.read(into)),
@@ -191,23 +197,23 @@ impl World for MemWorld {
 
     fn create(&mut self, name: &str) -> Result<(), Failed>
         ensures ends { Ends (is_due WorldCall.Create self.old.schedule)
-            (is_some self.old.meanings.made) result self.old.write_faults self.new.write_faults }
+            (is_some self.old.meanings.made) result self.old.faults.writes self.new.faults.writes }
         ensures exact { self.new ≡ record self.old {
           meanings = if is_ok result
               then with_begun self.old.meanings name.now
               else self.old.meanings;
-          write_faults = self.new.write_faults;
+          faults = record self.old.faults { writes = self.new.faults.writes };
           schedule = after_call WorldCall.Create self.old.schedule;
         } }
     {
         if self.schedule.pass(WorldCall::Create) {
-            return Err(raise(&mut self.write_faults));
+            return Err(raise(&mut self.faults.writes));
         }
         if self.made.is_some() {
             return Err(Failed);
         }
         let Ok(made) = begin(self.alloc, &mut self.files, name) else {
-            return Err(raise(&mut self.write_faults));
+            return Err(raise(&mut self.faults.writes));
         };
         self.made = Some(made);
         Ok(())
@@ -215,42 +221,42 @@ impl World for MemWorld {
 
     fn write(&mut self, piece: &[u8]) -> Result<usize, Failed>
         ensures ends { Ends (is_due WorldCall.Write self.old.schedule)
-            (is_none self.old.meanings.made) result self.old.write_faults self.new.write_faults }
+            (is_none self.old.meanings.made) result self.old.faults.writes self.new.faults.writes }
         ensures all { IfOk result (λ count. count ≡ length piece.now) }
         ensures exact { self.new ≡ record self.old {
           meanings = if is_ok result
               then with_written self.old.meanings piece.now
               else self.old.meanings;
-          write_faults = self.new.write_faults;
+          faults = record self.old.faults { writes = self.new.faults.writes };
           schedule = after_call WorldCall.Write self.old.schedule;
         } }
     {
         if self.schedule.pass(WorldCall::Write) {
-            return Err(raise(&mut self.write_faults));
+            return Err(raise(&mut self.faults.writes));
         }
         let Some(name) = &self.made else {
             return Err(Failed);
         };
         if self.files.append(name.as_str(), piece).is_err() {
-            return Err(raise(&mut self.write_faults));
+            return Err(raise(&mut self.faults.writes));
         }
         Ok(piece.len())
     }
 
     fn close(&mut self) -> Result<(), Failed>
         ensures ends { Ends (is_due WorldCall.Close self.old.schedule)
-            (is_none self.old.meanings.made) result self.old.write_faults self.new.write_faults }
+            (is_none self.old.meanings.made) result self.old.faults.writes self.new.faults.writes }
         ensures no_memory { is_due WorldCall.Close self.old.schedule ≡ false
             → IsSome self.old.meanings.made → IsOk result }
         ensures exact { self.new ≡ record self.old {
           meanings = record self.old.meanings { made = None };
-          write_faults = self.new.write_faults;
+          faults = record self.old.faults { writes = self.new.faults.writes };
           schedule = after_call WorldCall.Close self.old.schedule;
         } }
     {
         let made = self.made.take();
         if self.schedule.pass(WorldCall::Close) {
-            return Err(raise(&mut self.write_faults));
+            return Err(raise(&mut self.faults.writes));
         }
         if made.is_none() {
             return Err(Failed);
@@ -260,38 +266,38 @@ impl World for MemWorld {
 
     fn print(&mut self, piece: &[u8]) -> Result<usize, Failed>
         ensures ends { Ends (is_due WorldCall.Print self.old.schedule)
-            false result self.old.write_faults self.new.write_faults }
+            false result self.old.faults.writes self.new.faults.writes }
         ensures all { IfOk result (λ count. count ≡ length piece.now) }
         ensures exact { self.new ≡ record self.old {
           meanings = if is_ok result
               then with_printed self.old.meanings piece.now
               else self.old.meanings;
-          write_faults = self.new.write_faults;
+          faults = record self.old.faults { writes = self.new.faults.writes };
           schedule = after_call WorldCall.Print self.old.schedule;
         } }
     {
         if self.schedule.pass(WorldCall::Print) || self.printed.extend_from_slice(piece).is_err() {
-            return Err(raise(&mut self.write_faults));
+            return Err(raise(&mut self.faults.writes));
         }
         Ok(piece.len())
     }
 
     fn complain(&mut self, piece: &[u8]) -> Result<usize, Failed>
         ensures ends { Ends (is_due WorldCall.Complain self.old.schedule)
-            false result self.old.say_faults self.new.say_faults }
+            false result self.old.faults.says self.new.faults.says }
         ensures all { IfOk result (λ count. count ≡ length piece.now) }
         ensures exact { self.new ≡ record self.old {
           meanings = if is_ok result
               then with_complained self.old.meanings piece.now
               else self.old.meanings;
-          say_faults = self.new.say_faults;
+          faults = record self.old.faults { says = self.new.faults.says };
           schedule = after_call WorldCall.Complain self.old.schedule;
         } }
     {
         if self.schedule.pass(WorldCall::Complain)
             || self.complained.extend_from_slice(piece).is_err()
         {
-            return Err(raise(&mut self.say_faults));
+            return Err(raise(&mut self.faults.says));
         }
         Ok(piece.len())
     }
@@ -304,10 +310,19 @@ fn raise(count: &mut u64) -> Failed
     Failed
 }
 
+// Puts a copy of the name after the others.
+fn push_name(alloc: Global, names: &mut Vec<String>, name: &str) -> Result<(), AllocError>
+    ensures ok { OnOk result (map string_bytes names.new.items ≡ map string_bytes names.old.items ++ name.now ∷ []) }
+    ensures err { OnErr result (names.new.items ≡ names.old.items) }
+{
+    names.push(String::from_str(alloc, name)?)?;
+    Ok(())
+}
+
 // Makes the named file empty, and gives a copy of its name.
 fn begin(alloc: Global, files: &mut FileTable, name: &str) -> Result<String, AllocError>
     ensures name { IfOk result (λ made. string_bytes made ≡ name.now) }
-    ensures ok { OnOk result (files.new ≡ map.insert files.old name.now []) }
+    ensures ok { OnOk result (files.new ≡ fin_map.insert files.old name.now []) }
     ensures err { OnErr result (files.new ≡ files.old) }
 {
     let made = String::from_str(alloc, name)?;

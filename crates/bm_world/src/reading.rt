@@ -34,11 +34,12 @@ impl From<AllocError> for ReadEnd {
     }
 }
 
+// How many bytes come at once, at most.
 const BUFFER: usize = 65_536;
 
-/// Opens the named file and reads it to its end, if it has at most `limit` bytes. A longer file
-/// whose calls succeed is `TooLong`, or `Memory`. No more is read once more than `limit` bytes have
-/// come.
+/// Opens the named file, once, and reads it to its end, if it has at most `limit` bytes. A longer
+/// file whose calls succeed is `TooLong`, or `Memory`. No more is read once more than `limit` bytes
+/// have come.
 pub fn read_all<W: World>(
     alloc: Global,
     world: &mut W,
@@ -47,16 +48,16 @@ pub fn read_all<W: World>(
 ) -> Result<Vec<u8>, ReadEnd>
     ensures step { Step (W.told world.old) (W.told world.new) (ReadsAll name.now limit result) }
     ensures within { IfOk result (λ bytes. vec_len bytes ≤ limit) }
-    ensures fault { IsErrOf result ReadEnd.Fault → Rose (W.read_faults world.old) (W.read_faults world.new)
+    ensures fault { IsErrOf result ReadEnd.Fault → Rose (W.faults world.old).reads (W.faults world.new).reads
         ⊎ IsSomeAnd (W.told world.old) (IsMissing name.now) }
-    ensures later { W.read_faults world.old ≤ W.read_faults world.new }
-    ensures write_faults_stay { W.write_faults world.new ≡ W.write_faults world.old }
-    ensures say_faults_stay { W.say_faults world.new ≡ W.say_faults world.old }
+    ensures later { (W.faults world.old).reads ≤ (W.faults world.new).reads }
+    ensures writes_stay { (W.faults world.new).writes ≡ (W.faults world.old).writes }
+    ensures says_stay { (W.faults world.new).says ≡ (W.faults world.old).says }
 {
+    world.open(name)?;
     let mut room = vec![in alloc; 0u8; BUFFER]?;
     let buffer = room.as_mut_slice();
     let mut bytes = Vec::new(alloc);
-    world.open(name)?;
     loop {
         let count = world.read(buffer)?;
         if count == 0 {

@@ -1,17 +1,17 @@
-// Prints and complains whole texts, by as many calls as the world takes.
+// Writes whole texts to standard output and to standard error, by as many calls as the world takes.
 ghost use Rattle.std.specs.Prelude.{◌≡◌};
 ghost use Rattle.bm_world.specs.Meanings.{with_printed, with_complained};
 ghost use Rattle.bm_world.specs.World.{Step, RisesOnErr, AppendsAll};
 
 use crate::{Failed, World};
 
-/// Prints all of `bytes`. After `Failed` some front of them was printed.
+/// Writes all of `bytes` to standard output. After `Failed` some front of them was written.
 pub fn print_all<W: World>(world: &mut W, bytes: &[u8]) -> Result<(), Failed>
     ensures step { Step (W.told world.old) (W.told world.new)
         (AppendsAll with_printed bytes.now result) }
-    ensures cause { RisesOnErr (W.write_faults world.old) (W.write_faults world.new) result }
-    ensures read_faults_stay { W.read_faults world.new ≡ W.read_faults world.old }
-    ensures say_faults_stay { W.say_faults world.new ≡ W.say_faults world.old }
+    ensures cause { RisesOnErr (W.faults world.old).writes (W.faults world.new).writes result }
+    ensures reads_stay { (W.faults world.new).reads ≡ (W.faults world.old).reads }
+    ensures says_stay { (W.faults world.new).says ≡ (W.faults world.old).says }
 {
     let mut rest = bytes;
     while !rest.is_empty() {
@@ -23,13 +23,13 @@ pub fn print_all<W: World>(world: &mut W, bytes: &[u8]) -> Result<(), Failed>
     Ok(())
 }
 
-/// Complains all of `bytes`. After `Failed` some front of them was complained.
+/// Writes all of `bytes` to standard error. After `Failed` some front of them was written.
 pub fn complain_all<W: World>(world: &mut W, bytes: &[u8]) -> Result<(), Failed>
     ensures step { Step (W.told world.old) (W.told world.new)
         (AppendsAll with_complained bytes.now result) }
-    ensures cause { RisesOnErr (W.say_faults world.old) (W.say_faults world.new) result }
-    ensures read_faults_stay { W.read_faults world.new ≡ W.read_faults world.old }
-    ensures write_faults_stay { W.write_faults world.new ≡ W.write_faults world.old }
+    ensures cause { RisesOnErr (W.faults world.old).says (W.faults world.new).says result }
+    ensures reads_stay { (W.faults world.new).reads ≡ (W.faults world.old).reads }
+    ensures writes_stay { (W.faults world.new).writes ≡ (W.faults world.old).writes }
 {
     let mut rest = bytes;
     while !rest.is_empty() {

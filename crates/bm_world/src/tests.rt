@@ -27,6 +27,15 @@ fn a_file_is_read_up_to_the_limit(rt: HostRuntime) -> Result<(), Fail> {
         }
     }
     assert!(rt; world.faults() == (0, 0, 0));
+    // A missing file is never opened, and each other one was opened once.
+    let mut names = world.opened().iter();
+    for name in ["three", "four", "none", "four", "three"] {
+        assert!(rt;
+            names.next().is_some_and(|opened| opened.as_str() == name),
+            "{name}"
+        );
+    }
+    assert!(rt; names.next().is_none());
     Ok(())
 }
 
@@ -47,7 +56,7 @@ fn a_long_file_is_read_in_pieces(rt: HostRuntime) -> Result<(), Fail> {
 }
 
 #[test]
-fn texts_are_said_after_one_another(rt: HostRuntime) -> Result<(), Fail> {
+fn texts_are_written_after_one_another(rt: HostRuntime) -> Result<(), Fail> {
     let mut world = MemWorld::new(rt.alloc());
     print_all(&mut world, b"one ")?;
     print_all(&mut world, b"")?;
@@ -88,7 +97,7 @@ fn a_file_is_made_once_at_a_time(rt: HostRuntime) -> Result<(), Fail> {
 }
 
 #[test]
-fn a_file_is_read_as_it_stood(rt: HostRuntime) -> Result<(), Fail> {
+fn a_file_is_read_as_it_was(rt: HostRuntime) -> Result<(), Fail> {
     let mut world = MemWorld::new(rt.alloc());
     world.put_file("f", b"abc")?;
     world.open("f")?;

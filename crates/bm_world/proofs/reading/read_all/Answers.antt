@@ -1,29 +1,33 @@
 use Rattle.std.proofs.Common.{arith, refl, ◌∙◌, ⊎_elim, inl}
 use Rattle.std.proofs.lemmas.Result.{err_from_is_err_and}
-use Rattle.bm_world.specs.declared.reading.ReadEnd.TheVariants.{Fault, Memory}
-use Rattle.bm_world.proofs.WholeFile.{reads_none, reads_more, reads_all, reads_too_long, reads_no_more, rest_changed, rest_changed_by_open, rest_changed_by_reads, is_open}
+use Rattle.bm_world.proofs.WholeFile.{reads_none, reads_more, reads_all, reads_too_long, reads_no_memory, reads_not_opened, reads_fault, is_open}
 use Rattle.bm_world.proofs.Steps.{rose_later}
 use Rattle.bm_world.proofs.reading.read_all.Goals as goal
 
 pub returns-in_err-open-clause-step : goal.returns-in_err-open-clause-step
 returns-in_err-open-clause-step g c =
-    let end = err_from_is_err_and c.from_residual-in_err-open.result c.from_residual-in_err-open.ensures.1 in
-    rw (end.1, end.2) (reads_no_more Fault (λ _. tt) (rest_changed_by_open c.in_err-open.ensures.step))
+    let end = err_from_is_err_and c.from_residual.result c.from_residual.ensures.1 in
+    rw (end.1, end.2) (reads_not_opened c.in_err-open.ensures.step)
+
+pub returns-in_err-room-clause-step : goal.returns-in_err-room-clause-step
+returns-in_err-room-clause-step g c =
+    let end = err_from_is_err_and c.from_residual-in_err-room.result c.from_residual-in_err-room.ensures.1 in
+    rw (end.1, end.2) (reads_no_memory (reads_none c.args.limit _ refl c.in_ok-open.ensures.step))
 
 pub loop-bytes-init : goal.loop-bytes-init
 loop-bytes-init g c = record {
-  so_far = reads_none c.new-bytes.result.items c.new-bytes.ensures.items c.in_ok-open.ensures.step;
+  so_far = reads_none c.args.limit c.new-bytes.result.items c.new-bytes.ensures.items c.in_ok-open.ensures.step;
   within = omega (arith, c.new-bytes.ensures.len);
   room = omega (arith, c.in_ok-room.ensures.len, c.as_mut_slice-buffer.ensures.len);
   later = omega (arith, c.in_ok-open.ensures.cause.later);
-  write_faults_stay = c.open.ensures.write_faults_stay;
-  say_faults_stay = c.open.ensures.say_faults_stay;
+  writes_stay = c.open.ensures.writes_stay;
+  says_stay = c.open.ensures.says_stay;
 }
 
 pub returns-in_err-count-clause-step : goal.returns-in_err-count-clause-step
 returns-in_err-count-clause-step g c =
     let end = err_from_is_err_and c.from_residual-in_err-count.result c.from_residual-in_err-count.ensures.1 in
-    rw (end.1, end.2) (reads_no_more Fault (λ _. tt) (rest_changed c.loop-bytes.invariant.so_far c.in_err-count.ensures.step))
+    rw (end.1, end.2) (reads_fault c.loop-bytes.invariant.so_far c.in_err-count.ensures.step)
 
 pub returns-in_err-count-clause-fault : goal.returns-in_err-count-clause-fault
 returns-in_err-count-clause-fault g c _ = ⊎_elim
@@ -39,20 +43,20 @@ pub returns-in_err-extend_from_slice-clause-step :
     goal.returns-in_err-extend_from_slice-clause-step
 returns-in_err-extend_from_slice-clause-step g c =
     let end = err_from_is_err_and c.from_residual-in_err-extend_from_slice.result c.from_residual-in_err-extend_from_slice.ensures.1 in
-    let so_far = reads_more _ refl c.loop-bytes.invariant.so_far c.in_ok-count.ensures.step in
-    rw (end.1, end.2) (reads_no_more Memory (λ _. tt) (rest_changed_by_reads so_far))
+    let so_far = reads_more _ refl (omega (arith, c.loop-bytes.bytes.ok.0)) (omega arith) c.loop-bytes.invariant.so_far c.in_ok-count.ensures.step in
+    rw (end.1, end.2) (reads_no_memory so_far)
 
 pub returns-then-len-limit-clause-step : goal.returns-then-len-limit-clause-step
 returns-then-len-limit-clause-step g c =
     reads_too_long (omega (arith, c.extend_from_slice.new.self.ok.0))
-    (reads_more c.extend_from_slice.new.self.items c.in_ok-extend_from_slice.ensures.items c.loop-bytes.invariant.so_far c.in_ok-count.ensures.step)
+    (reads_more c.extend_from_slice.new.self.items c.in_ok-extend_from_slice.ensures.items (omega (arith, c.loop-bytes.bytes.ok.0)) (omega arith) c.loop-bytes.invariant.so_far c.in_ok-count.ensures.step)
 
 pub loop-bytes-preserved : goal.loop-bytes-preserved
 loop-bytes-preserved g c = record {
-  so_far = reads_more _ c.in_ok-extend_from_slice.ensures.items c.loop-bytes.invariant.so_far c.in_ok-count.ensures.step;
+  so_far = reads_more _ c.in_ok-extend_from_slice.ensures.items (omega (arith, c.loop-bytes.bytes.ok.0)) (omega arith) c.loop-bytes.invariant.so_far c.in_ok-count.ensures.step;
   within = omega arith;
   room = omega arith;
   later = omega (arith, c.in_ok-count.ensures.cause.later);
-  write_faults_stay = c.read.ensures.write_faults_stay ∙ c.loop-bytes.invariant.write_faults_stay;
-  say_faults_stay = c.read.ensures.say_faults_stay ∙ c.loop-bytes.invariant.say_faults_stay;
+  writes_stay = c.read.ensures.writes_stay ∙ c.loop-bytes.invariant.writes_stay;
+  says_stay = c.read.ensures.says_stay ∙ c.loop-bytes.invariant.says_stay;
 }

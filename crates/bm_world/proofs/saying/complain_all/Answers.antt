@@ -7,8 +7,8 @@ pub loop-rest-preserved : goal.loop-rest-preserved
 loop-rest-preserved g c = record {
   so_far = appends_more with_complained complained_appends c.in-Ok.count c.split_at.ensures.back c.loop-rest.invariant.so_far c.in-Ok.ensures.step;
   later = omega (arith, c.in-Ok.ensures.cause.later);
-  read_faults_stay = c.in-Ok.ensures.read_faults_stay ∙ c.loop-rest.invariant.read_faults_stay;
-  write_faults_stay = c.in-Ok.ensures.write_faults_stay ∙ c.loop-rest.invariant.write_faults_stay;
+  reads_stay = c.in-Ok.ensures.reads_stay ∙ c.loop-rest.invariant.reads_stay;
+  writes_stay = c.in-Ok.ensures.writes_stay ∙ c.loop-rest.invariant.writes_stay;
 }
 
 pub returns-in-Err-clause-step : goal.returns-in-Err-clause-step

@@ -7,8 +7,8 @@ pub loop-rest-preserved : goal.loop-rest-preserved
 loop-rest-preserved g c = record {
   so_far = appends_more with_printed printed_appends c.in-Ok.count c.split_at.ensures.back c.loop-rest.invariant.so_far c.in-Ok.ensures.step;
   later = omega (arith, c.in-Ok.ensures.cause.later);
-  read_faults_stay = c.in-Ok.ensures.read_faults_stay ∙ c.loop-rest.invariant.read_faults_stay;
-  say_faults_stay = c.in-Ok.ensures.say_faults_stay ∙ c.loop-rest.invariant.say_faults_stay;
+  reads_stay = c.in-Ok.ensures.reads_stay ∙ c.loop-rest.invariant.reads_stay;
+  says_stay = c.in-Ok.ensures.says_stay ∙ c.loop-rest.invariant.says_stay;
 }
 
 pub returns-in-Err-clause-step : goal.returns-in-Err-clause-step

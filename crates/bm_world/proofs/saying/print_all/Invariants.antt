@@ -7,9 +7,9 @@ use Rattle.bm_world.proofs.saying.print_all.Given as goal
 abbrev pub invariant-loop-rest : goal.invariant-loop-rest
 invariant-loop-rest g l = record {
   so_far : Step (g.W.World.told l.fn.world) (g.W.World.told l.world) (AppendsUpTo with_printed l.fn.bytes l.rest);
-  later : g.W.World.write_faults l.fn.world ≤ g.W.World.write_faults l.world;
-  read_faults_stay : g.W.World.read_faults l.world ≡ g.W.World.read_faults l.fn.world;
-  say_faults_stay : g.W.World.say_faults l.world ≡ g.W.World.say_faults l.fn.world;
+  later : (g.W.World.faults l.fn.world).writes ≤ (g.W.World.faults l.world).writes;
+  reads_stay : (g.W.World.faults l.world).reads ≡ (g.W.World.faults l.fn.world).reads;
+  says_stay : (g.W.World.faults l.world).says ≡ (g.W.World.faults l.fn.world).says;
 }
 
 abbrev pub decreases-loop-rest : goal.decreases-loop-rest

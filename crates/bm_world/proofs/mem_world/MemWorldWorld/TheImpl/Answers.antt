@@ -8,8 +8,8 @@ read-tells c = record {
   step = reads_told _ c.args.into.now c.new.into.now c.result _ _ c.args.self.now.meanings c.new.self.now.meanings c.ensures.ends c.ensures.count c.ensures.came (ap (λ (w : MemState). w.meanings) c.ensures.exact);
   within = search rules;
   cause = search rules;
-  write_faults_stay = ap (λ (w : MemState). w.write_faults) c.ensures.exact;
-  say_faults_stay = ap (λ (w : MemState). w.say_faults) c.ensures.exact;
+  writes_stay = ap (λ (w : MemState). w.faults.writes) c.ensures.exact;
+  says_stay = ap (λ (w : MemState). w.faults.says) c.ensures.exact;
 }
 
 pub write-tells : goal.write-tells
@@ -18,6 +18,6 @@ write-tells c = record {
   within = search rules;
   some = search rules;
   cause = search rules;
-  read_faults_stay = ap (λ (w : MemState). w.read_faults) c.ensures.exact;
-  say_faults_stay = ap (λ (w : MemState). w.say_faults) c.ensures.exact;
+  reads_stay = ap (λ (w : MemState). w.faults.reads) c.ensures.exact;
+  says_stay = ap (λ (w : MemState). w.faults.says) c.ensures.exact;
 }
