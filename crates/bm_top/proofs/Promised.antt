@@ -39,7 +39,7 @@ module _ (words : List (List ℕ)) (told told_mid told_now : Option Meanings) (b
         | inl rose ↦ inl rose
         | inr gone ↦ inr (IsSomeAnd-wider told (λ w. verdict_of words w.files ≡ refused 5 (read_fault_line name.now))
             (λ m. (verdict : Verdict) × IsVerdict words m.files verdict × (verdict.status ≡ 5))
-            (λ m is. (verdict_of words m.files, (verdict_of-is words m.files, ap (λ (v : Verdict). v.status) is))) gone)
+            (λ m is. (verdict_of words m.files, verdict_of-is words m.files, ap (λ (v : Verdict). v.status) is)) gone)
       ]
   read_cause ends.WriteFault had e = absurd (omega arith)
   read_cause ends.Memory had e = absurd (omega arith)

@@ -43,7 +43,7 @@ kept : (verdict : Verdict) (ending : Ending) (m k : Meanings) → EndsSo verdict
 kept verdict ends.Done m k ended = kept_left (files_after verdict m.files) verdict.text m k ended.1
 kept verdict (ends.Refused refusal) m k ended = kept_read m k ended.1
 kept verdict (ends.ReadFault name) m k ended = kept_read m k ended
-kept verdict ends.WriteFault m k (done, (files, (count, (front, moved)))) = kept_left files (take count verdict.text) m k moved
+kept verdict ends.WriteFault m k (done, (files, count, front, moved)) = kept_left files (take count verdict.text) m k moved
 kept verdict ends.Memory m k ended = kept_read m k ended
 
 -- after a line was complained, or a front of it
@@ -124,7 +124,7 @@ LeavesFiles-ended verdict (ends.Refused refusal) said m k n ended complained =
     unchanged verdict (refusal_status refusal) (refusal_line refusal) said m k n status.no0 status.no6 ended.1 complained
 LeavesFiles-ended verdict (ends.ReadFault name) said m k n ended complained =
     unchanged verdict 5 (line_of (ends.ReadFault name)) said m k n (λ e. omega arith) (λ e. omega arith) ended complained
-LeavesFiles-ended verdict ends.WriteFault said m k n (done, (files, (count, (front, moved)))) complained =
+LeavesFiles-ended verdict ends.WriteFault said m k n (done, (files, count, front, moved)) complained =
     let after = said_so (line_of ends.WriteFault) said k n complained in
     let same : n.files ≡ files = after.files ∙ ap (λ (w : Meanings). w.files) moved in
     record {
@@ -183,7 +183,7 @@ Outputs-ended verdict (ends.Refused refusal) said m k n ended complained =
     unprinted verdict (refusal_status refusal) (refusal_line refusal) said m k n status.no0 status.no6 status.no7 (ap (λ (w : Meanings). w.printed) ended.1) complained
 Outputs-ended verdict (ends.ReadFault name) said m k n ended complained =
     unprinted verdict 5 (line_of (ends.ReadFault name)) said m k n (λ e. omega arith) (λ e. omega arith) (λ e. omega arith) (ap (λ (w : Meanings). w.printed) ended) complained
-Outputs-ended verdict ends.WriteFault said m k n (done, (files, (count, (front, moved)))) complained =
+Outputs-ended verdict ends.WriteFault said m k n (done, (files, count, front, moved)) complained =
     let after = said_so (line_of ends.WriteFault) said k n complained in
     record {
       whole = λ e. absurd (omega arith);
@@ -228,7 +228,7 @@ module _ (verdict : Files → Verdict) (names : List (List ℕ)) (told : Option 
       }
   Complains-line (ends.ReadFault name) m n is k ended had line = record {
     verdict_line = λ _ _ _ quiet. rw (missing_line verdict names told before mid now reads name.now m is (quiet refl) had.reason.1) line;
-    read_line = λ _. (name.now, (had.reason.0, line));
+    read_line = λ _. (name.now, had.reason.0, line);
     write_line = λ e. absurd (omega arith);
     memory_line = λ e. absurd (omega arith);
   }

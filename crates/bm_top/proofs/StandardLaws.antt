@@ -49,9 +49,9 @@ read-triples bytes none = record {
 }
 
 -- the verdict by what is read
-decided-by : (bytes text : List ℕ) (bad : Option ℕ) (reading : Result AbstractQuery QueryFault) → first_bad bytes ≡ bad → query_reading text ≡ reading → decided bytes text ≡ deciding bad (lines_of bytes) reading
+decided-by : (bytes text : List ℕ) (bad : Option ℕ) (result : Result AbstractQuery QueryFault) → first_bad bytes ≡ bad → query_reading text ≡ result → decided bytes text ≡ deciding bad (lines_of bytes) result
 unfolding decided
-decided-by bytes text bad reading is read = ap (λ b. deciding b (lines_of bytes) (query_reading text)) is ∙ ap (deciding bad (lines_of bytes)) read
+decided-by bytes text bad result is found = ap (λ b. deciding b (lines_of bytes) (query_reading text)) is ∙ ap (deciding bad (lines_of bytes)) found
 
 abbrev answer_text : AbstractQuery → List Triple → List ℕ
 answer_text query triples = tsv_text query (answers_to query (graph_of triples))
@@ -62,10 +62,10 @@ graph-is = IsSetOf-set_of triple_cmp triple_cmp-total triple_cmp-exact
 
 answer-decided : (bytes text printed : List ℕ) → IsAnswer bytes text printed → decided bytes text ≡ answered printed
 answer-decided bytes text printed is =
-    let read = triples-read bytes is.triples is.are_triples in
+    let spelled = triples-read bytes is.triples is.are_triples in
     let same : is.graph ≡ graph_of is.triples = (graph-is is.triples is.graph).0 is.is_graph in
-    decided-by bytes text None (Ok is.query) read.none (denotes-reading text is.query is.denoted)
-    ∙ ap (λ ts. answered (answer_text is.query ts)) (sym read.are)
+    decided-by bytes text None (Ok is.query) spelled.none (denotes-reading text is.query is.denoted)
+    ∙ ap (λ ts. answered (answer_text is.query ts)) (sym spelled.are)
     ∙ ap (λ graph. answered (tsv_text is.query (answers_to is.query graph))) (sym same)
     ∙ ap answered (sym is.is_text)
 
@@ -104,8 +104,8 @@ refusal-read bytes text fault none is = record {
   is_line = refl;
 }
 
-deciding-is : (bytes text : List ℕ) (bad : Option ℕ) (read : Result AbstractQuery QueryFault) → first_bad bytes ≡ bad → query_reading text ≡ read → IsAnswerOrRefusal bytes text (deciding bad (lines_of bytes) read)
-deciding-is bytes text (Some n) read is found = bad_data (bad_line_line n) (record { number = n; is_bad = (first_bad-found bytes n).0 is; is_line = refl }) refl
+deciding-is : (bytes text : List ℕ) (bad : Option ℕ) (result : Result AbstractQuery QueryFault) → first_bad bytes ≡ bad → query_reading text ≡ result → IsAnswerOrRefusal bytes text (deciding bad (lines_of bytes) result)
+deciding-is bytes text (Some n) result is found = bad_data (bad_line_line n) (record { number = n; is_bad = (first_bad-found bytes n).0 is; is_line = refl }) refl
 deciding-is bytes text None (Err fault) is found = bad_query (fault_line fault) (refusal-read bytes text fault is found) refl
 deciding-is bytes text None (Ok query) is found = answer (answer_text query (triples_of (lines_of bytes))) (answer-read bytes text query is found) refl
 

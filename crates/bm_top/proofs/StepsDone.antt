@@ -3,7 +3,7 @@ use Rattle.std.proofs.Common.{◌≡◌, ◌⊎◌, inl, inr, ℕ, suc, ◌<◌,
 use Rattle.std.proofs.lemmas.Grind.{common_steps}
 use Rattle.std.proofs.lemmas.List.{append-nil}
 use Rattle.std.specs.declared.alloc.Global.{Global}
-use Rattle.alg_model.proofs.Lists.{Contains-head, Contains-tail}
+use Rattle.bm_term.proofs.Elements.{Contains-head, Contains-tail}
 use Rattle.bm_world.specs.declared.world.Faults.{Faults}
 use Rattle.bm_world.specs.Meanings.{Files, Meanings, file_at, with_opened, with_printed}
 use Rattle.bm_world.specs.Reading.{ReadsAll}
@@ -30,7 +30,7 @@ EndsSo-printing verdict text (Ok u) m n is moved =
     rw is (refl, subst P (sym moved) refl)
 EndsSo-printing verdict text (Err e) m n is (count, moved) =
     let P : Meanings → Type 0 = λ k. Leaves m.files (take count text) m k in
-    rw is (refl, (m.files, (count, (inl refl, subst P (sym moved) refl))))
+    rw is (refl, (m.files, count, inl refl, subst P (sym moved) refl))
 
 -- nothing has moved, and there is no text
 pub EndsSo-undecided : (verdict : Verdict) (why : Undecided) (m : Meanings) → IsDecided verdict (Err why) → EndsSo verdict (after_deciding why) m m
@@ -66,6 +66,11 @@ IsSomeAnd-wider (Some x) P Q wider h = wider x h
 -- no file is opened where nothing but the printed text changed
 pub OpensInTurn-same : (names : List (List ℕ)) (m n : Meanings) → n.opened ≡ m.opened → OpensInTurn names m n
 OpensInTurn-same names m n same = (0, same ∙ sym (append-nil m.opened))
+
+-- printing opens no file
+pub OpensInTurn-printing : (names : List (List ℕ)) (text : List ℕ) (printed : Result (Unit {0}) Failed) (m n : Meanings) → AppendsAll with_printed text printed m n → OpensInTurn names m n
+OpensInTurn-printing names text (Ok u) m n moved = OpensInTurn-same names m n (ap (λ (w : Meanings). w.opened) moved)
+OpensInTurn-printing names text (Err e) m n (count, moved) = OpensInTurn-same names m n (ap (λ (w : Meanings). w.opened) moved)
 
 -- one file is opened, and then those that are left
 pub OpensInTurn-more : (name : List ℕ) (names : List (List ℕ)) (m k n : Meanings) → k.opened ≡ m.opened ++ name ∷ [] → OpensInTurn names k n → OpensInTurn (name ∷ names) m n
@@ -131,12 +136,13 @@ module _ (name : List ℕ) (names : List (List ℕ)) (limit : ℕ) (next : Files
   unread_reason : (told : Option Meanings) (before now : Faults) (end : ReadEnd) (shown : Bor (List ℕ)) → shown.now ≡ name
       → (end ≡ read_ends.Fault → Rose before.reads now.reads ⊎ IsSomeAnd told (IsMissing name)) → Reason verdict (name ∷ names) told before now (after_reading end shown limit)
   unread_reason told before now read_ends.Fault shown is why =
-      let P : List ℕ → Type 0 = λ shown_name. Contains (name ∷ names) shown_name in
-      (subst P (sym is) (Contains-head name names),
-      elim (why refl) [
-        | inl rose ↦ inl rose
-        | inr gone ↦ inr (IsSomeAnd-wider told (IsMissing name) (λ m. verdict m.files ≡ refused 5 (read_fault_line shown.now)) (λ m none. missing m shown is none) gone)
-      ])
+      let P : List ℕ → Type 0 = λ shown_name. Contains (name ∷ names) shown_name in (
+        subst P (sym is) (Contains-head name names),
+        elim (why refl) [
+          | inl rose ↦ inl rose
+          | inr gone ↦ inr (IsSomeAnd-wider told (IsMissing name) (λ m. verdict m.files ≡ refused 5 (read_fault_line shown.now)) (λ m none. missing m shown is none) gone)
+        ],
+      )
   unread_reason told before now read_ends.TooLong shown is why = tt
   unread_reason told before now read_ends.Memory shown is why = tt
 
@@ -161,12 +167,13 @@ module _ (name : List ℕ) (names : List (List ℕ)) (limit : ℕ) (next : Files
       → Step told mid (ReadsAll name limit (Ok bytes)) → Reason (λ files. next files bytes.items) names mid between now ending → Reason verdict (name ∷ names) told before now ending
   later_reason told mid before between now bytes ends.Done later writes small step why = tt
   later_reason told mid before between now bytes (ends.Refused refusal) later writes small step why = tt
-  later_reason told mid before between now bytes (ends.ReadFault shown) later writes small step why =
-      (Contains-tail name names shown.now why.0,
-      elim why.1 [
-        | inl rose ↦ inl (rose_later later rose)
-        | inr gone ↦ inr (earlier told mid bytes (refused 5 (read_fault_line shown.now)) small step gone)
-      ])
+  later_reason told mid before between now bytes (ends.ReadFault shown) later writes small step why = (
+    Contains-tail name names shown.now why.0,
+    elim why.1 [
+      | inl rose ↦ inl (rose_later later rose)
+      | inr gone ↦ inr (earlier told mid bytes (refused 5 (read_fault_line shown.now)) small step gone)
+    ],
+  )
   later_reason told mid before between now bytes ends.WriteFault later writes small step why = rw (sym writes) why
   later_reason told mid before between now bytes ends.Memory later writes small step why = tt
 

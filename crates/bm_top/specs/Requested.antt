@@ -1,7 +1,6 @@
 -- Carries proofs only: the request that the code's command is.
 use Rattle.bm_top.specs.declared.command.Command.{Command}
-use Rattle.bm_top.specs.declared.command.Command.TheVariants as commands
 use Rattle.bm_top.specs.Command.{Request, ask}
 
 abbrev pub requested : Command → Request
-requested (commands.Ask file query) = ask file.now query.now
+requested command = ask command.data.now command.query.now

@@ -8,11 +8,11 @@ const ASK: &str = "ask";
 
 const TSV: &str = "tsv";
 
-/// The commands that are built, with the names of their files.
+/// The command that is built: `ask`, which answers the query of one file over the data of another.
 #[derive(Clone, Copy, Debug)]
-pub(crate) enum Command<'a> {
-    /// Answers the query of one file over the data of another.
-    Ask { data: &'a str, query: &'a str },
+pub(crate) struct Command<'a> {
+    pub(crate) data: &'a str,
+    pub(crate) query: &'a str,
 }
 
 /// The command that some words are, if they are a row of the table of commands.
@@ -22,7 +22,7 @@ pub(crate) fn parse_words(words: &[String]) -> Option<Command<'_>>
     match words {
         [command, data, query, form] => {
             if command.as_str() == ASK && form.as_str() == TSV {
-                Some(Command::Ask {
+                Some(Command {
                     data: data.as_str(),
                     query: query.as_str(),
                 })

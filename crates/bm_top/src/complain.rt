@@ -82,7 +82,12 @@ fn complain_fault<W: World>(fault: QueryFault, world: &mut W) -> Result<(), Fail
 {
     match fault {
         QueryFault::Syntax { at } => complain_at(world, b"syntax", "", at),
-        QueryFault::Unsupported { at, word } => complain_at(world, b"unsupported ", word.text(), at),
+        QueryFault::Unsupported { at, word } => complain_at(
+            world,
+            b"unsupported ",
+            word.text(),
+            at,
+        ),
         QueryFault::UnknownPrefix { at } => complain_at(world, b"unknown prefix", "", at),
         QueryFault::TooManyVariables { at } => complain_at(world, b"too many variables", "", at),
         QueryFault::TooManyPatterns { at } => complain_at(world, b"too many patterns", "", at),

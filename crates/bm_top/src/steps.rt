@@ -37,7 +37,7 @@ pub(crate) fn perform<'a, W: World>(
     ensures opens { Step (W.told world.old) (W.told world.new) (OpensInTurn (names_read (option_map requested command.entry))) }
 {
     match command {
-        Some(Command::Ask { data, query }) => perform_ask(alloc, data, query, world),
+        Some(ask) => perform_ask(alloc, ask.data, ask.query, world),
         None => Ending::Refused {
             refusal: Refusal::Usage,
         },
