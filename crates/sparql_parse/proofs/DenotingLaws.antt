@@ -18,7 +18,7 @@ use Rattle.query_grammar.proofs.Carrying.{Reads, step_of}
 use Rattle.query_grammar.proofs.Runs.{reads-run, run-reads, read-last, read-last-none, reads-split}
 use Rattle.query_grammar.proofs.GrammarLaws.{IsReadToEnd-query, query-run, HasFaultAt-StopsAt, StopsAt-HasFaultAt, is-end}
 use Rattle.alg_model.specs.declared.query.Query.{Query}
-use Rattle.alg_model.specs.Answers.{AbstractQuery, abstract_of}
+use Rattle.alg_model.specs.Query.{AbstractQuery, abstract_of}
 use Rattle.sparql_parse.specs.declared.fault.QueryFault.{QueryFault}
 use Rattle.sparql_parse.specs.declared.fault.QueryFault.TheVariants as faults
 use Rattle.sparql_parse.specs.Denotes.{Denotes, HasNoFaults, HasOwnFault, HasGrammarFault, IsFaultOf, IsMeantBy, grammar_fault, word_fault}

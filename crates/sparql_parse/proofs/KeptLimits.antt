@@ -7,7 +7,7 @@ use Rattle.query_grammar.specs.Tree.{Syntax}
 use Rattle.query_grammar.specs.Grammar.{IsQuery}
 use Rattle.alg_model.specs.declared.query.Query.{Query}
 use Rattle.alg_model.specs.Pattern.{Algebra, algebra_of}
-use Rattle.alg_model.specs.Answers.{abstract_of}
+use Rattle.alg_model.specs.Query.{abstract_of}
 use Rattle.alg_model.specs.Limits.{PatternKeepsLimits, KeepsLimits}
 use Rattle.sparql_parse.specs.Names.{names_of}
 use Rattle.sparql_parse.specs.Faults.{is_object, is_optional}

@@ -17,7 +17,7 @@ use Rattle.query_grammar.specs.Expecting.{Reading}
 use Rattle.query_grammar.proofs.GrammarLaws.{IsReadToEnd-query}
 use Rattle.alg_model.specs.declared.var.Var.{Var}
 use Rattle.alg_model.specs.Pattern.{Algebra, algebra_of}
-use Rattle.alg_model.specs.Answers.{AbstractQuery}
+use Rattle.alg_model.specs.Query.{AbstractQuery}
 use Rattle.sparql_parse.specs.declared.build.ReadToken.{ReadToken}
 use Rattle.sparql_parse.specs.declared.build.Translation.{Translation}
 use Rattle.sparql_parse.specs.declared.fault.QueryFault.{QueryFault}

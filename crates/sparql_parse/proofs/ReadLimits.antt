@@ -9,7 +9,7 @@ use Rattle.query_grammar.proofs.GrammarLaws.{IsReadToEnd-query}
 use Rattle.alg_model.specs.declared.var.Var.{Var}
 use Rattle.alg_model.specs.declared.query.Query.{Query}
 use Rattle.alg_model.specs.Pattern.{Algebra, algebra_of}
-use Rattle.alg_model.specs.Answers.{abstract_of}
+use Rattle.alg_model.specs.Query.{abstract_of}
 use Rattle.alg_model.specs.Limits.{KeepsLimits}
 use Rattle.query_values.specs.Values.{IsSpelled}
 use Rattle.sparql_parse.specs.declared.build.Translation.{Translation}

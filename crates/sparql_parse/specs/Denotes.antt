@@ -3,7 +3,7 @@ use Rattle.std.specs.Prelude.{◌≡◌, ℕ, List, [], ◌∷◌, ◌++◌, map
 use Rattle.std.specs.Str.{IsUtf8, IsValidUpTo}
 use Rattle.query_tokens.specs.Token.{Lexeme}
 use Rattle.query_tokens.specs.Tokens.{AreTokens}
-use Rattle.alg_model.specs.Answers.{AbstractQuery}
+use Rattle.alg_model.specs.Query.{AbstractQuery}
 use Rattle.sparql_parse.specs.declared.fault.QueryFault.{QueryFault}
 use Rattle.sparql_parse.specs.declared.fault.QueryFault.TheVariants as faults
 use Rattle.query_grammar.specs.Roles.{Labelled, tokens_of}

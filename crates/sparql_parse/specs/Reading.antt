@@ -13,7 +13,7 @@ use Rattle.query_grammar.specs.Terminals.{terminal_of}
 use Rattle.query_grammar.specs.Words.{unsupported_word}
 use Rattle.query_grammar.specs.Roles.{Labelled, with_role}
 use Rattle.query_grammar.specs.Expecting.{start, next_step, Reading}
-use Rattle.alg_model.specs.Answers.{AbstractQuery}
+use Rattle.alg_model.specs.Query.{AbstractQuery}
 use Rattle.alg_model.specs.declared.var.Var.{Var}
 use Rattle.sparql_parse.specs.declared.fault.QueryFault.{QueryFault}
 use Rattle.sparql_parse.specs.declared.fault.QueryFault.TheVariants as faults

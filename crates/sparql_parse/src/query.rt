@@ -5,7 +5,7 @@ ghost use Rattle.sparql_parse.specs.Builds.{labelled_in};
 ghost use Rattle.std.specs.Str.{IsUtf8};
 ghost use Rattle.query_tokens.specs.Token.{shown};
 ghost use Rattle.query_grammar.specs.declared.expect.Expect.{Expect};
-ghost use Rattle.alg_model.specs.Answers.{AbstractQuery, abstract_of};
+ghost use Rattle.alg_model.specs.Query.{AbstractQuery, abstract_of};
 ghost use Rattle.alg_model.specs.Limits.{KeepsLimits};
 ghost use Rattle.sparql_parse.specs.Reading.{IsMemoryOr, first, query_of, query_reading, read_next, read_on, text_reading};
 ghost use Rattle.sparql_parse.specs.Readers.{IsKept, IsSpelledOrBad, labels_in, reading_in};
