@@ -1,5 +1,5 @@
 -- An offender refutes that the pattern is well designed, there is one at most, and the test answers it.
-use Rattle.std.proofs.Common.{◌≡◌, ◌↔◌, ℕ, ◌+◌, ◌<◌, ◌≤◌, inl, inr, Option, Some, None, All, Contains, refl, sym, ◌∙◌, ap, subst, arith}
+use Rattle.std.proofs.Common.{◌≡◌, ◌↔◌, ℕ, ◌+◌, ◌<◌, ◌≤◌, inl, inr, Option, Some, None, Result, Err, All, Contains, refl, sym, ◌∙◌, ap, subst, arith}
 use Rattle.std.specs.Prelude.{slice_get}
 use Rattle.std.proofs.lemmas.Bool.{cases_lt}
 use Rattle.std.proofs.lemmas.List.Elements.{All-contains, Contains-get_or}
@@ -46,3 +46,20 @@ fine-verdict pattern answer h is = verdict-fine (optionals_of pattern) 1 (subst 
 -- a fault: it is the offender
 pub offender-verdict : (pattern : Algebra) (answer : Option NotWellDesigned) (e : NotWellDesigned) → IsVerdict 1 (optionals_of pattern) answer → answer ≡ Some e → IsOffender pattern e.optional e.var.0
 offender-verdict pattern answer e h is = verdict-offender (optionals_of pattern) 1 e (subst (IsVerdict 1 (optionals_of pattern)) is h)
+
+-- faults of one OPTIONAL and one variable are one
+same_fault : (e other : NotWellDesigned) → e.optional ≡ other.optional → e.var.0 ≡ other.var.0 → e ≡ other
+same_fault e other number var = λ i. record { optional = number i; var = record { 0 = var i } }
+
+-- a fault as the answer of the test
+abbrev fail : NotWellDesigned → Result (Unit {0}) NotWellDesigned
+fail e = Err e
+
+-- the offender is that of the answer, and of no other
+pub offender_along : (pattern : Algebra) (e other : NotWellDesigned) → fail e ≡ fail other → IsOffender pattern e.optional e.var.0 → IsOffender pattern other.optional other.var.0
+offender_along pattern e other is offender = let same : e ≡ other = cc in subst (λ e. IsOffender pattern e.optional e.var.0) same offender
+
+pub offender_one : (pattern : Algebra) (e other : NotWellDesigned) → IsOffender pattern e.optional e.var.0 → IsOffender pattern other.optional other.var.0 → fail e ≡ fail other
+offender_one pattern e other is so =
+    let one = one_offender pattern e.optional e.var.0 other.optional other.var.0 is so in
+    ap fail (same_fault e other one.0 one.1)

@@ -1,9 +1,9 @@
 -- The walks answer of the OPTIONALs of a pattern what fails against the variables before them, and against those after
 -- them; both together are the test.
-use Rattle.std.proofs.Common.{◌≡◌, ◌≢◌, ◌↔◌, ◌⊎◌, ℕ, suc, ◌+◌, ◌-◌, ◌<◌, ◌≤◌, ◌^◌, ◌==◌, min, inl, inr, Bool, true, false, if◌then◌else◌, List, [], ◌∷◌, ◌++◌, length, Option, Some, None, Contains, bit_and, bit_or, w64, refl, sym, ◌∙◌, ap, subst, arith, eqb-true, eqb-false, append-nil}
+use Rattle.std.proofs.Common.{◌≡◌, ◌≢◌, ◌↔◌, ◌⊎◌, ℕ, suc, ◌+◌, ◌-◌, ◌<◌, ◌≤◌, ◌^◌, ◌==◌, min, inl, inr, Bool, true, false, if◌then◌else◌, List, [], ◌∷◌, ◌++◌, length, Option, Some, None, Contains, bit_and, bit_or, w64, refl, sym, ◌∙◌, ap, subst, arith, eqb-true, append-nil}
 use Rattle.std.specs.Int.{bit_at, bit_not, trailing_zeros}
 use Rattle.std.specs.Option.{option_or}
-use Rattle.std.proofs.lemmas.Bool.{cases_lt, cases_eq}
+use Rattle.std.proofs.lemmas.Bool.{cases_lt, cases_eq, eqb-false}
 use Rattle.std.proofs.lemmas.List.{length-append}
 use Rattle.std.proofs.lemmas.List.Elements.{Contains-append_left, Contains-append_right, Contains-append_cases}
 use Rattle.std.proofs.lemmas.Nat.{and_le_l}
@@ -101,9 +101,10 @@ module _ (left right : Algebra) (fits_left : PatternFits left) (fits_right : Pat
 abbrev with_vars : Bool → List ℕ → Algebra → List ℕ
 with_vars counts outside part = outside ++ (if counts then vars_of part else [])
 
-HoldsJust-with : (counts : Bool) (met : ℕ) (outside : List ℕ) (part : Algebra) → HoldsJust met outside → HoldsJust (with_set counts met part) (with_vars counts outside part)
-HoldsJust-with true met outside part holds = HoldsJust-or met (pattern_set part) outside (vars_of part) holds (HoldsJust-pattern part)
-HoldsJust-with false met outside part holds = subst (HoldsJust met) (sym (append-nil outside)) holds
+-- the word with the set of a part holds them
+HoldsJust-with : (counts : Bool) (met : ℕ) (outside : List ℕ) (side : Algebra) → HoldsJust met outside → HoldsJust (with_set counts met side) (with_vars counts outside side)
+HoldsJust-with true met outside side holds = HoldsJust-or met (pattern_set side) outside (vars_of side) holds (HoldsJust-pattern side)
+HoldsJust-with false met outside side holds = subst (HoldsJust met) (sym (append-nil outside)) holds
 
 -- the OPTIONALs of a part, each with the variables on the sides that count
 abbrev beside : Bool → Bool → List ℕ → Algebra → List OptionalPart
@@ -233,3 +234,10 @@ test-verdict pattern fits =
     let nothing : IsEither [] [] [] = λ var. (λ at. inl at, λ either. elim either as (λ _. Contains [] var) [ inl at ↦ at | inr at ↦ at ]) in
     verdict-both (both_beside pattern [] [] [] nothing) 1 (fault_beside false true 0 0 pattern) (fault_beside true false 0 0 pattern)
     (beside-verdict false true pattern [] 0 0 fits HoldsJust-nil) (beside-verdict true false pattern [] 0 0 fits HoldsJust-nil)
+
+-- so is the first of what both walks answer
+pub answered : (pattern : Algebra) → PatternFits pattern → (onward back answer : Option NotWellDesigned) (count : ℕ) →
+    onward ≡ fault_beside false true 0 0 pattern → back ≡ backward 0 count pattern → count ≡ 0 + optional_parts pattern → answer ≡ earlier onward back → IsVerdict 1 (optionals_of pattern) answer
+answered pattern fits onward back answer count on is_back counted is =
+    let other : back ≡ fault_beside true false 0 0 pattern = is_back ∙ backward-is pattern 0 0 count counted in
+    subst (IsVerdict 1 (optionals_of pattern)) (sym (is ∙ ap (λ o. earlier o back) on ∙ ap (earlier (fault_beside false true 0 0 pattern)) other)) (test-verdict pattern fits)

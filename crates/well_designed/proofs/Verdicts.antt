@@ -127,15 +127,15 @@ module _ (x y z : OptionalPart) (both : IsBoth x y z) where
   offends_on_a_side : (var : ℕ) → Offends z var → Offends x var ⊎ Offends y var
   offends_on_a_side var h = elim ((both.outside var).0 h.outside) as (λ _. Offends x var ⊎ Offends y var) [
     | inl outside ↦ inl (record {
-        inside = subst (λ part. Contains (vars_of part) var) (sym both.right_x) h.inside;
-        outside = outside;
-        not_left = subst (λ part. ¬ Contains (vars_of part) var) (sym both.left_x) h.not_left;
-      })
+      inside = subst (λ part. Contains (vars_of part) var) (sym both.right_x) h.inside;
+      outside = outside;
+      not_left = subst (λ part. ¬ Contains (vars_of part) var) (sym both.left_x) h.not_left;
+    })
     | inr outside ↦ inr (record {
-        inside = subst (λ part. Contains (vars_of part) var) (sym both.right_y) h.inside;
-        outside = outside;
-        not_left = subst (λ part. ¬ Contains (vars_of part) var) (sym both.left_y) h.not_left;
-      })
+      inside = subst (λ part. Contains (vars_of part) var) (sym both.right_y) h.inside;
+      outside = outside;
+      not_left = subst (λ part. ¬ Contains (vars_of part) var) (sym both.left_y) h.not_left;
+    })
   ]
 
   -- where both sides are fine, it is
@@ -156,44 +156,44 @@ verdict-both (more {x} {y} {z} {xs} {ys} {zs} both rest) number u v hu hv = elim
   | inl fine_x ↦ elim hv as (λ _. IsVerdict number (z ∷ zs) (earlier u v)) [
     | inl fine_y ↦ inl (fine_on_both x y z both fine_x.0 fine_y.0, verdict-both rest (suc number) u v fine_x.1 fine_y.1)
     | inr bad_y ↦ inr (
-        bad_y.0,
-        record {
-          offends = offends_from_y x y z both bad_y.0 bad_y.1.offends;
-          least = λ other h. elim (offends_on_a_side x y z both other h) as (λ _. bad_y.0 ≤ other) [ inl on_x ↦ absurd (not_offended x other fine_x.0 on_x) | inr on_y ↦ bad_y.1.least other on_y ];
-        },
-        ap (earlier u) bad_y.2 ∙ second-alone number bad_y.0 u (later xs (suc number) u fine_x.1),
-      )
+      bad_y.0,
+      record {
+        offends = offends_from_y x y z both bad_y.0 bad_y.1.offends;
+        least = λ other h. elim (offends_on_a_side x y z both other h) as (λ _. bad_y.0 ≤ other) [ inl on_x ↦ absurd (not_offended x other fine_x.0 on_x) | inr on_y ↦ bad_y.1.least other on_y ];
+      },
+      ap (earlier u) bad_y.2 ∙ second-alone number bad_y.0 u (later xs (suc number) u fine_x.1),
+    )
   ]
   | inr bad_x ↦ elim hv as (λ _. IsVerdict number (z ∷ zs) (earlier u v)) [
     | inl fine_y ↦ inr (
-        bad_x.0,
-        record {
-          offends = offends_from_x x y z both bad_x.0 bad_x.1.offends;
-          least = λ other h. elim (offends_on_a_side x y z both other h) as (λ _. bad_x.0 ≤ other) [ inl on_x ↦ bad_x.1.least other on_x | inr on_y ↦ absurd (not_offended y other fine_y.0 on_y) ];
-        },
-        ap (λ o. earlier o v) bad_x.2 ∙ first-alone number bad_x.0 v (later ys (suc number) v fine_y.1),
-      )
+      bad_x.0,
+      record {
+        offends = offends_from_x x y z both bad_x.0 bad_x.1.offends;
+        least = λ other h. elim (offends_on_a_side x y z both other h) as (λ _. bad_x.0 ≤ other) [ inl on_x ↦ bad_x.1.least other on_x | inr on_y ↦ absurd (not_offended y other fine_y.0 on_y) ];
+      },
+      ap (λ o. earlier o v) bad_x.2 ∙ first-alone number bad_x.0 v (later ys (suc number) v fine_y.1),
+    )
     | inr bad_y ↦
         let p = bad_x.0 in
         let q = bad_y.0 in
         let is : earlier u v ≡ earlier (Some (fault number p)) (Some (fault number q)) = ap (λ o. earlier o v) bad_x.2 ∙ ap (earlier (Some (fault number p))) bad_y.2 in
         elim (cases_lt q p) as (λ _. IsVerdict number (z ∷ zs) (earlier u v)) [
           | inl less ↦ inr (
-              q,
-              record {
-                offends = offends_from_y x y z both q bad_y.1.offends;
-                least = λ other h. elim (offends_on_a_side x y z both other h) as (λ _. q ≤ other) [ inl on_x ↦ (let low = bad_x.1.least other on_x in omega arith) | inr on_y ↦ bad_y.1.least other on_y ];
-              },
-              is ∙ earlier-lesser number p q less,
-            )
+            q,
+            record {
+              offends = offends_from_y x y z both q bad_y.1.offends;
+              least = λ other h. elim (offends_on_a_side x y z both other h) as (λ _. q ≤ other) [ inl on_x ↦ (let low = bad_x.1.least other on_x in omega arith) | inr on_y ↦ bad_y.1.least other on_y ];
+            },
+            is ∙ earlier-lesser number p q less,
+          )
           | inr kept ↦ inr (
-              p,
-              record {
-                offends = offends_from_x x y z both p bad_x.1.offends;
-                least = λ other h. elim (offends_on_a_side x y z both other h) as (λ _. p ≤ other) [ inl on_x ↦ bad_x.1.least other on_x | inr on_y ↦ (let low = bad_y.1.least other on_y in omega arith) ];
-              },
-              is ∙ earlier-kept number p q kept,
-            )
+            p,
+            record {
+              offends = offends_from_x x y z both p bad_x.1.offends;
+              least = λ other h. elim (offends_on_a_side x y z both other h) as (λ _. p ≤ other) [ inl on_x ↦ bad_x.1.least other on_x | inr on_y ↦ (let low = bad_y.1.least other on_y in omega arith) ];
+            },
+            is ∙ earlier-kept number p q kept,
+          )
         ]
   ]
 ]
@@ -230,5 +230,6 @@ verdict-offender (x ∷ xs) number e h = elim h as (λ _. (place : ℕ) × (e.op
     earlier_ones : (before : ℕ) (earlier : OptionalPart) → before < suc place → slice_get (x ∷ xs) before ≡ Some earlier → IsFine earlier
     earlier_ones zero earlier low stands = let same : x ≡ earlier = cc in subst IsFine same fine
     earlier_ones (suc before) earlier low stands = is.first before earlier (omega arith) stands
+
   here : (x : OptionalPart) (xs : List OptionalPart) (var : ℕ) → IsLeastOffence x var → IsFirstOffender (x ∷ xs) 0 var
   here x xs var bad = record { part = x; stands = refl; offends = bad.offends; least = bad.least; first = λ before earlier low stands. absurd (omega arith) }

@@ -1,6 +1,6 @@
 -- What the two walks of the test answer. It carries proofs, and nothing public rests on it.
-use Rattle.std.specs.Prelude.{ℕ, ◌+◌, ◌-◌, ◌==◌, nat_lt, Bool, true, false, if◌then◌else◌, Option, Some, None, w64}
-use Rattle.std.specs.Int.{bit_not, trailing_zeros}
+use Rattle.std.specs.Prelude.{ℕ, ◌+◌, ◌-◌, ◌==◌, nat_lt, Bool, true, false, if◌then◌else◌, Option, Some, None}
+use Rattle.std.specs.Int.{w64, bit_not, trailing_zeros}
 use Rattle.std.specs.Int.Bits.{bit_and, bit_or}
 use Rattle.std.specs.Option.{option_or}
 use Rattle.alg_model.specs.Pattern.{Algebra, Bgp, Join, LeftJoin, optional_parts}

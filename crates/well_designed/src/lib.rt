@@ -3,12 +3,6 @@
 #![tactic(auto)]
 
 mod design;
-mod places;
-mod refusals;
-#[cfg(test)]
-mod tests;
 mod walk;
 
-pub use design::{test, NotWellDesigned};
-pub use places::{cross_place, three_places};
-pub use refusals::{refusal, Refusal};
+pub use design::{NotWellDesigned, test};

@@ -12,6 +12,7 @@ use alg_model::{Pattern, Var};
 
 /// What a walk over a part answers: the variables of the part, the number of OPTIONALs of the text at the
 /// end of the part that the walk comes to last, and the first OPTIONAL of the part that fails.
+#[derive(Clone, Copy, Debug)]
 pub(crate) struct Walked {
     vars: u64,
     pub(crate) optionals: u8,
