@@ -5,3 +5,5 @@ pub mod Pattern
 pub mod Query
 pub mod Row
 pub mod Solution
+pub mod VarSet
+pub mod WellDesigned

@@ -13,6 +13,7 @@ mod row;
 #[cfg(test)]
 mod tests;
 mod var;
+mod var_set;
 
 pub use eval::eval_plain;
 pub use laws::{arranged_rows_law, basic_pattern_law, triple_order_law};

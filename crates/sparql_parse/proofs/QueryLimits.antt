@@ -8,9 +8,8 @@ use Rattle.query_grammar.specs.Terminals.{terminal_of}
 use Rattle.query_grammar.specs.Roles.{Labelled, count_of}
 use Rattle.query_grammar.specs.Tree.{Syntax}
 use Rattle.query_grammar.specs.Grammar.{IsQuery}
-use Rattle.alg_model.specs.Pattern.{vars_of}
+use Rattle.alg_model.specs.Pattern.{vars_of, triple_patterns}
 use Rattle.alg_model.specs.Limits.{PatternKeepsLimits}
-use Rattle.alg_model.specs.Pattern.{triple_patterns}
 use Rattle.query_values.specs.Values.{name_of}
 use Rattle.sparql_parse.specs.Names.{is_text, with_name, names_behind, names_of}
 use Rattle.sparql_parse.specs.Faults.{is_object, is_optional}

@@ -3,6 +3,7 @@
 use Rattle.std.specs.Prelude.{ℕ, Bool, true, false, ◌&&◌, nat_lt, is_none, if◌then◌else◌, List, [], ◌∷◌, ◌++◌, length, Option, Some, None}
 use Rattle.query_tokens.specs.declared.token.TokenKind.{TokenKind}
 use Rattle.query_tokens.specs.declared.token.TokenKind.TheVariants as kinds
+use Rattle.alg_model.specs.Limits.{max_variables, max_triple_patterns, max_optionals, max_groups, max_open_groups}
 use Rattle.sparql_parse.specs.declared.fault.QueryFault.{QueryFault}
 use Rattle.sparql_parse.specs.declared.fault.QueryFault.TheVariants as faults
 use Rattle.query_grammar.specs.declared.syntax.Role.{Role}
@@ -46,15 +47,14 @@ counts_of labelled = record {
   groups = count_of is_open labelled;
 }
 
--- The limits: 64 variables, 256 triple patterns, 63 OPTIONALs, 32 groups that are open at once, 256 groups.
--- In the order in which they are looked at, at a token that begins with this byte.
+-- the first limit that is passed, in the order in which they are looked at, at a token that begins with this byte
 abbrev pub limit_among : ℕ → Counts → Option QueryFault
 limit_among at counts =
-    if nat_lt 64 counts.names then Some (faults.TooManyVariables at)
-    else if nat_lt 256 counts.objects then Some (faults.TooManyPatterns at)
-    else if nat_lt 63 counts.optionals then Some (faults.TooManyOptionals at)
-    else if nat_lt 32 counts.depth then Some (faults.TooDeep at)
-    else if nat_lt 256 counts.groups then Some (faults.TooManyGroups at)
+    if nat_lt max_variables counts.names then Some (faults.TooManyVariables at)
+    else if nat_lt max_triple_patterns counts.objects then Some (faults.TooManyPatterns at)
+    else if nat_lt max_optionals counts.optionals then Some (faults.TooManyOptionals at)
+    else if nat_lt max_open_groups counts.depth then Some (faults.TooDeep at)
+    else if nat_lt max_groups counts.groups then Some (faults.TooManyGroups at)
     else None
 
 -- a prefix comes before the limits

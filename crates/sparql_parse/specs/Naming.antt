@@ -5,6 +5,7 @@ use Rattle.query_tokens.specs.Token.{Lexeme}
 use Rattle.query_grammar.specs.declared.terminal.Terminal.{Terminal}
 use Rattle.query_grammar.specs.declared.terminal.Terminal.TheVariants as terminals
 use Rattle.query_values.specs.Values.{name_of}
+use Rattle.alg_model.specs.Limits.{max_variables, max_triple_patterns, max_optionals, max_groups}
 use Rattle.sparql_parse.specs.declared.fault.QueryFault.{QueryFault}
 use Rattle.sparql_parse.specs.declared.tally.Tally.{Tally}
 use Rattle.query_grammar.specs.declared.syntax.Role.{Role}
@@ -62,10 +63,10 @@ fault_behind k depth l =
 
 -- the limits are kept
 pub record IsWithin (list : List (List ℕ)) (tally : Tally) : Type 0 where
-  pub names : length list ≤ 64
-  pub objects : tally.objects ≤ 256
-  pub optionals : tally.optionals ≤ 63
-  pub groups : tally.groups ≤ 256
+  pub names : length list ≤ max_variables
+  pub objects : tally.objects ≤ max_triple_patterns
+  pub optionals : tally.optionals ≤ max_optionals
+  pub groups : tally.groups ≤ max_groups
 
 -- whether a token is a variable whose name is not among some names
 abbrev pub is_new_name : List (List ℕ) → Terminal → Lexeme → Bool

@@ -5,6 +5,7 @@ use Rattle.query_tokens.specs.declared.token.TokenKind.TheVariants as kinds
 use Rattle.query_grammar.specs.Roles.{Labelled, tokens_of}
 use Rattle.query_grammar.specs.Expecting.{Reading, read_tokens, start}
 use Rattle.query_grammar.specs.declared.expect.State.{State}
+use Rattle.alg_model.specs.Limits.{max_open_groups}
 use Rattle.sparql_parse.specs.declared.query.Reader.{Reader}
 use Rattle.sparql_parse.specs.Builds.{labelled_in}
 use Rattle.sparql_parse.specs.Naming.{Kept, kept_of, IsWithin}
@@ -24,7 +25,7 @@ IsSpelledOrBad token = (token.kind ≡ kinds.Bad) ⊎ IsSpelled token
 pub record IsKeptOf (labelled : List Labelled) (state : State) (kept : Kept) : Type 0 where
   pub run : read_tokens start (tokens_of labelled) ≡ Some (record { labelled = labelled; state = state })
   pub same : kept ≡ kept_of labelled
-  pub shallow : state.groups ≤ 32
+  pub shallow : state.groups ≤ max_open_groups
   pub within : IsWithin kept.names kept.tally
   pub spelled : All (λ l. IsSpelled l.token) labelled
 

@@ -7,6 +7,7 @@ ghost use Rattle.query_grammar.specs.Terminals.{terminal_of};
 ghost use Rattle.query_grammar.specs.Tree.{Syntax};
 ghost use Rattle.query_grammar.specs.declared.syntax.Role.TheVariants as roles;
 ghost use Rattle.alg_model.specs.Pattern.{algebra_of, vars_of};
+ghost use Rattle.alg_model.specs.Limits.{max_triple_patterns};
 ghost use Rattle.sparql_parse.specs.Building.{built, columns_behind, in_role, next_settled, pattern_at, settled, start, step};
 ghost use Rattle.sparql_parse.specs.Builds.{IsSoundState, IsTranslation, labelled_in, state_in};
 ghost use Rattle.sparql_parse.specs.Faults.{is_object};
@@ -310,7 +311,7 @@ pub(crate) fn translate(
     scope: &Naming,
     tokens: &[ReadToken<'_>],
 ) -> Result<Translation, AllocError>
-    requires few { count_of is_object (map labelled_in tokens.now) ≤ 256 }
+    requires few { count_of is_object (map labelled_in tokens.now) ≤ max_triple_patterns }
     requires spelled { All (λ token. IsSpelled (shown token.token)) tokens.now }
     ensures { (tree : Syntax) → IsQuery tree (map labelled_in tokens.now) → IfOk result (IsTranslation (scope_in scope.now) tree) }
 {

@@ -5,6 +5,7 @@ ghost use Rattle.query_tokens.specs.Token.{shown};
 ghost use Rattle.query_grammar.specs.Roles.{with_role};
 ghost use Rattle.query_grammar.specs.Terminals.{terminal_of};
 ghost use Rattle.query_values.specs.Values.{AreIriChars, IsSpelled};
+ghost use Rattle.alg_model.specs.Limits.{max_variables};
 ghost use Rattle.sparql_parse.specs.Names.{is_text, namespace_of, names_behind};
 ghost use Rattle.sparql_parse.specs.Faults.{is_unknown, uses_prefix};
 ghost use Rattle.sparql_parse.specs.Naming.{IsWithin, fault_behind, is_new_name, kept_behind, kept_of};
@@ -61,7 +62,7 @@ impl Naming {
     /// The number of a variable: the place of its name, if it is there.
     pub(crate) fn number(&self, name: &[u8]) -> Option<usize>
         ensures place { result ≡ position (is_text name.now) self.now.names }
-        ensures few { IfSome result (λ number. number < 64) }
+        ensures few { IfSome result (λ number. number < max_variables) }
     {
         self.names.position(name)
     }
