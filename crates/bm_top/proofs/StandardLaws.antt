@@ -7,7 +7,8 @@ use Rattle.bm_term.specs.declared.triple.Triple.{Triple}
 use Rattle.bm_term.specs.Graph.{triple_cmp, IsGraph, graph_of}
 use Rattle.bm_term.proofs.Sets.{IsSetOf-set_of}
 use Rattle.bm_term.proofs.TripleOrder.{triple_cmp-total, triple_cmp-exact}
-use Rattle.nt_read.specs.Lines.{first_bad, lines_of, triples_of, SpellTriples}
+use Rattle.nt_read.specs.scanning.Lines.{first_bad, lines_of, triples_of}
+use Rattle.nt_read.specs.Lines.{SpellTriples}
 use Rattle.nt_read.proofs.Cuts.{AreLines-lines_of}
 use Rattle.nt_read.proofs.FirstBad.{first_bad-found, first_bad-none}
 use Rattle.nt_read.proofs.SpelledTriples.{spelled-triples_of}
