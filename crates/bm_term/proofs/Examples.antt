@@ -10,6 +10,7 @@ use Rattle.bm_term.specs.Kept.{after, after_all}
 text_of_iri : canonical_chars (iri (codes "urn:a")) ≡ codes "<urn:a>"
 text_of_iri = refl
 
+-- the text of a blank node
 text_of_blank : canonical_chars (blank (codes "b1")) ≡ codes "_:b1"
 text_of_blank = refl
 
@@ -18,10 +19,12 @@ text_of_plain : canonical_chars (plain (0x61 ∷ 0x22 ∷ 0x62 ∷ 0xA ∷ 0x5C 
 unfolding escape_letter
 text_of_plain = refl
 
+-- the text of a literal with a language tag
 text_of_tagged : canonical_chars (tagged (codes "Ann") (codes "en-gb")) ≡ codes "\"Ann\"@en-gb"
 unfolding escape_letter
 text_of_tagged = refl
 
+-- the text of a literal with another datatype
 text_of_typed : canonical_chars (typed (codes "41") (codes "urn:int")) ≡ codes "\"41\"^^<urn:int>"
 unfolding escape_letter
 text_of_typed = refl
@@ -30,14 +33,17 @@ text_of_typed = refl
 triple_on : List ℕ → Triple
 triple_on object = record { subject = codes "<a>"; predicate = codes "<p>"; object = object }
 
+-- the first triple is kept
 first_is_kept : after (record { list = []; limit = Some 1; were_more = false }) (triple_on (codes "<b>")) ≡ record { list = triple_on (codes "<b>") ∷ []; limit = Some 1; were_more = false }
 unfolding triple_on
 first_is_kept = refl
 
+-- the same triple again changes nothing
 again_is_kept_once : after_all (record { list = []; limit = Some 1; were_more = false }) (triple_on (codes "<b>") ∷ triple_on (codes "<b>") ∷ []) ≡ record { list = triple_on (codes "<b>") ∷ []; limit = Some 1; were_more = false }
 unfolding triple_on
 again_is_kept_once = refl
 
+-- another triple is marked
 another_is_marked : after_all (record { list = []; limit = Some 1; were_more = false }) (triple_on (codes "<b>") ∷ triple_on (codes "<c>") ∷ []) ≡ record { list = triple_on (codes "<b>") ∷ []; limit = Some 1; were_more = true }
 unfolding triple_on
 another_is_marked = refl

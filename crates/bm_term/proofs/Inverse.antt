@@ -9,6 +9,7 @@ use Rattle.bm_term.proofs.TermTexts.{parts_of}
 use Rattle.rdf_text.proofs.Unescaping.{unescaped-escaped}
 use Rattle.bm_term.proofs.PartsLaws.{scans_canonical}
 
+-- the parts of a term make it again
 pub term_of-parts : (term : RdfTerm) → term_of (kind_of term) (body_of term) (tail_of term) ≡ term
 term_of-parts (iri cs) = refl
 term_of-parts (blank label) = refl
@@ -16,6 +17,7 @@ term_of-parts (plain lexical) = ap plain (unescaped-escaped lexical)
 term_of-parts (tagged lexical tag) = ap (λ form. tagged form tag) (unescaped-escaped lexical)
 term_of-parts (typed lexical datatype) = ap (λ form. typed form datatype) (unescaped-escaped lexical)
 
+-- terms with the same text are the same
 pub canonical_text-injective : (s t : RdfTerm) → IsTerm s → IsTerm t → canonical_text s ≡ canonical_text t → s ≡ t
 canonical_text-injective s t s_is t_is same =
     let first : scan_term (chars (canonical_text s)) ≡ Some (parts_of s) = scans_canonical (canonical_text s) s s_is refl in

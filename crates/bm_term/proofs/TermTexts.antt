@@ -26,6 +26,7 @@ use Rattle.rdf_text.specs.scanning.Spelling.{after_spelling}
 use Rattle.bm_term.specs.scanning.Terms.{split_iri, ScannedParts, scan_iri, scan_blank, scan_tagged, scan_typed, scan_tail, scan_literal, scan_term}
 use Rattle.rdf_text.proofs.TextLemmas.{after_run-split, after_run-append, after_run-stop, after_char-some, before-append}
 
+-- texts that differ are not the same
 bytes_eq-other : (xs ys : List ℕ) → xs ≢ ys → bytes_eq xs ys ≡ false
 bytes_eq-other xs ys other =
     elim (bytes_eq xs ys) as (λ b. bytes_eq xs ys ≡ b → b ≡ false) [
@@ -33,6 +34,7 @@ bytes_eq-other xs ys other =
       | false ↦ λ e. refl
     ] refl
 
+-- texts that are not the same differ
 bytes_eq-differs : (xs ys : List ℕ) → bytes_eq xs ys ≡ false → xs ≢ ys
 bytes_eq-differs xs ys e same = let equal = (bytes_eq-Decides xs ys).1 same in cc
 
@@ -40,12 +42,14 @@ bytes_eq-differs xs ys e same = let equal = (bytes_eq-Decides xs ys).1 same in c
 abbrev pub parts_of : RdfTerm → ScannedParts
 parts_of term = (kind_of term, body_of term, tail_of term)
 
+-- a value at the end of a text is found only where nothing is left
 at_end-some : {A : Type 0} (rest : List ℕ) (value read : A) → at_end rest value ≡ Some read → (rest ≡ []) × (value ≡ read)
 at_end-some rest value read e =
     let (ended, same) = cond_some (length rest == 0) value read e in
     let none = eqb-true (length rest) 0 ended in
     (nil_from_length rest none, same)
 
+-- the closing bracket is no IRICHAR
 no_irichar : is_irichar 62 ≡ false
 unfolding is_irichar is_scalar
 no_irichar = refl
@@ -65,19 +69,21 @@ split_iri-some text chars rest e =
           (subst (λ xs. list_all is_irichar xs ≡ true) same all, split ∙ ap (λ xs. xs ++ end) same ∙ ap (λ xs. chars ++ xs) (closed ∙ ap (λ xs. 62 ∷ xs) follows))
     ] refl e
 
+-- an IRI up to its bracket is cut there
 split_iri-again : (chars rest : List ℕ) → list_all is_irichar chars ≡ true → split_iri (chars ++ 62 ∷ rest) ≡ Some (chars, rest)
 unfolding split_iri
 split_iri-again chars rest all =
     let end : after_run is_irichar (chars ++ 62 ∷ rest) ≡ 62 ∷ rest = after_run-append is_irichar chars (62 ∷ rest) all ∙ after_run-stop is_irichar 62 rest no_irichar in
     rw (end, before-append chars (62 ∷ rest)) refl
 
--- what a reading answers is a term, whose text stands in front
+-- what a scan answers is a term, whose text stands in front
 pub record Tells (text front : List ℕ) (read : ScannedParts) : Type 0 where
   pub term : RdfTerm
   pub is : IsTerm term
   pub spelled : front ++ text ≡ canonical_chars term
   pub parts : parts_of term ≡ read
 
+-- what is read after '<' is the text of an IRI
 scan_iri-tells : (text : List ℕ) (read : ScannedParts) → scan_iri text ≡ Some read → Tells text (60 ∷ []) read
 unfolding scan_iri
 scan_iri-tells text read e =
@@ -92,10 +98,12 @@ scan_iri-tells text read e =
       parts = same;
     })
 
+-- the text of an IRI is read
 scan_iri-again : (chars : List ℕ) → list_all is_irichar chars ≡ true → scan_iri (chars ++ 62 ∷ []) ≡ Some (Iri, chars, [])
 unfolding scan_iri
 scan_iri-again chars all = rw (split_iri-again chars [] all) refl
 
+-- what is read after '_' is the text of a blank node
 scan_blank-tells : (text : List ℕ) (read : ScannedParts) → scan_blank text ≡ Some read → Tells text (95 ∷ []) read
 unfolding scan_blank
 scan_blank-tells text read e =
@@ -113,12 +121,13 @@ scan_blank-tells text read e =
       parts = same;
     }))
 
+-- the text of a blank node is read
 scan_blank-again : (label : List ℕ) → IsDottedName is_nt_label_first is_nt_pn_chars label → scan_blank (58 ∷ label) ≡ Some (Blank, label, [])
 unfolding scan_blank
 scan_blank-again label is =
     rw (whole (IsDottedName is_nt_label_first is_nt_pn_chars) (after_dotted_name is_nt_label_first is_nt_pn_chars) (after_dotted_name-reaches is_nt_label_first is_nt_pn_chars) label is) refl
 
--- what a reading behind a lexical form answers is a literal of that form
+-- what a scan after a lexical form answers is a literal of that form
 record TellsLiteral (lexical text : List ℕ) (read : ScannedParts) : Type 0 where
   term : RdfTerm
   is : IsTerm term
@@ -126,6 +135,7 @@ record TellsLiteral (lexical text : List ℕ) (read : ScannedParts) : Type 0 whe
   parts : parts_of term ≡ read
 
 module _ (lexical : List ℕ) (scalars : all_scalars lexical ≡ true) where
+  -- what is read after '@' is the tag of a literal
   scan_tagged-tells : (text : List ℕ) (read : ScannedParts) → scan_tagged (escaped lexical) text ≡ Some read → TellsLiteral lexical (64 ∷ text) read
   unfolding scan_tagged
   scan_tagged-tells text read e =
@@ -141,15 +151,18 @@ module _ (lexical : List ℕ) (scalars : all_scalars lexical ≡ true) where
         parts = same;
       })
 
+  -- the tag of a literal is read
   scan_tagged-again : (tag : List ℕ) → IsLanguageTag is_lower_letter is_lower_alphanumeric tag → scan_tagged (escaped lexical) tag ≡ Some (Tagged, escaped lexical, tag)
   unfolding scan_tagged
   scan_tagged-again tag is =
       rw (whole (IsLanguageTag is_lower_letter is_lower_alphanumeric) (after_language_tag is_lower_letter is_lower_alphanumeric)
       (after_language_tag-reaches is_lower_letter is_lower_alphanumeric no_lower_letter no_lower_alphanumeric) tag is) refl
 
+  -- the end of a literal with a datatype
   abbrev typed_end : List ℕ × List ℕ → Option ScannedParts
   typed_end split = if bytes_eq split.0 xsd_string then None else at_end split.1 (Typed, escaped lexical, split.0)
 
+  -- such an end is found only where the datatype is another than xsd:string
   typed_end-some : (datatype rest : List ℕ) (read : ScannedParts) → typed_end (datatype, rest) ≡ Some read → (datatype ≢ xsd_string) × (rest ≡ []) × ((Typed, escaped lexical, datatype) ≡ read)
   typed_end-some datatype rest read e =
       elim (bytes_eq datatype xsd_string) as (λ b. bytes_eq datatype xsd_string ≡ b → ◌≡◌ {A = Option ScannedParts} (if b then None else at_end rest (Typed, escaped lexical, datatype)) (Some read) → (datatype ≢ xsd_string) × (rest ≡ []) × ((Typed, escaped lexical, datatype) ≡ read)) [
@@ -159,6 +172,7 @@ module _ (lexical : List ℕ) (scalars : all_scalars lexical ≡ true) where
             (bytes_eq-differs datatype xsd_string f, ended, same)
       ] refl e
 
+  -- what is read after '^' is the datatype of a literal
   scan_typed-tells : (text : List ℕ) (read : ScannedParts) → scan_typed (escaped lexical) text ≡ Some read → TellsLiteral lexical (94 ∷ text) read
   unfolding scan_typed
   scan_typed-tells text read e =
@@ -177,11 +191,13 @@ module _ (lexical : List ℕ) (scalars : all_scalars lexical ≡ true) where
         parts = same;
       })))
 
+  -- the datatype of a literal is read
   scan_typed-again : (datatype : List ℕ) → list_all is_irichar datatype ≡ true → datatype ≢ xsd_string → scan_typed (escaped lexical) (94 ∷ 60 ∷ (datatype ++ 62 ∷ [])) ≡ Some (Typed, escaped lexical, datatype)
   unfolding scan_typed
   scan_typed-again datatype all other =
       rw (split_iri-again datatype [] all, bytes_eq-other datatype xsd_string other) refl
 
+  -- what is read after the closing mark is the tail of a literal
   scan_tail-tells : (text : List ℕ) (read : ScannedParts) → scan_tail (escaped lexical) text ≡ Some read → TellsLiteral lexical text read
   unfolding scan_tail
   scan_tail-tells [] read e = record { term = plain lexical; is = scalars; spelled = refl; parts = same_Some (Plain, escaped lexical, []) read e }
@@ -195,6 +211,7 @@ module _ (lexical : List ℕ) (scalars : all_scalars lexical ≡ true) where
             ] refl h
       ] refl e
 
+  -- what is read after the opening mark is the text of a literal
   scan_literal-tells : (text : List ℕ) (read : ScannedParts) → text ≡ escaped lexical ++ after_pieces after_spelling text → scan_literal text ≡ Some read → Tells text (34 ∷ []) read
   unfolding scan_literal
   scan_literal-tells text read split e =
@@ -211,6 +228,7 @@ module _ (lexical : List ℕ) (scalars : all_scalars lexical ≡ true) where
         parts = tells.parts;
       })
 
+-- the first character belongs to the text
 front_first : (c : ℕ) (cs : List ℕ) (read : ScannedParts) → Tells cs (c ∷ []) read → Tells (c ∷ cs) [] read
 front_first c cs read tells = record { term = tells.term; is = tells.is; spelled = tells.spelled; parts = tells.parts }
 
@@ -219,6 +237,7 @@ after_spelling-quotation_mark : (rest : List ℕ) → after_spelling (34 ∷ res
 unfolding after_spelling escape_letter
 after_spelling-quotation_mark rest = refl
 
+-- the text of a literal is read, where its tail is
 scan_literal-again : (lexical tail : List ℕ) (read : ScannedParts) → scan_tail (escaped lexical) tail ≡ Some read → scan_literal (escaped lexical ++ 34 ∷ tail) ≡ Some read
 unfolding scan_literal
 scan_literal-again lexical tail read e =

@@ -1,4 +1,4 @@
-// The parts of a canonical text, read from its front.
+//! The parts of a canonical text, read from its front.
 ghost use Rattle.std.specs.Prelude.{◌≡◌, ◌↔◌, IsSome, IfSome, bytes_eq};
 ghost use Rattle.std.specs.Option.{option_map};
 ghost use Rattle.std.specs.Str.{chars, IsUtf8};
@@ -26,7 +26,7 @@ pub fn parts(bytes: &[u8]) -> Option<Parts<'_>>
     }
 }
 
-// The parts of a text, where it is canonical.
+/// The parts of a text, where it is canonical.
 #[tactic(auto, unfolding(crate::specs::scanning::Terms::scan_term))]
 fn scan_term(text: &str) -> Option<Parts<'_>>
     ensures parts { option_map shown result ≡ scan_term (chars text.now) }
@@ -69,7 +69,7 @@ fn scan_literal(text: &str) -> Option<Parts<'_>>
     scan_tail(before(text, end), tail)
 }
 
-// What follows the closing mark of a lexical form: nothing, a language tag or a datatype.
+/// What follows the closing mark of a lexical form: nothing, a language tag or a datatype.
 #[tactic(auto, using(rdf_text::proofs::TextLemmas::empty_text), unfolding(crate::specs::scanning::Terms::scan_tail))]
 fn scan_tail<'a>(lexical: &'a str, text: &'a str) -> Option<Parts<'a>>
     ensures parts { option_map shown result ≡ scan_tail (chars lexical.now) (chars text.now) }
@@ -117,7 +117,7 @@ pub fn is_xsd_string(iri: &str) -> bool
     iri == XSD_STRING
 }
 
-// An IRI up to its closing bracket, and what follows that.
+/// An IRI up to its closing bracket, and what follows that.
 #[tactic(auto, unfolding(crate::specs::scanning::Terms::split_iri))]
 fn split_iri(text: &str) -> Option<(&str, &str)>
     ensures chars { option_map (λ p. (chars p.0.now, chars p.1.now)) result ≡ split_iri (chars text.now) }
@@ -128,7 +128,7 @@ fn split_iri(text: &str) -> Option<(&str, &str)>
     Some((before(text, end), rest))
 }
 
-// The parts, where nothing is left of the text.
+/// The parts, where nothing is left of the text.
 fn parts_at_end<'a>(rest: &str, kind: TermKind, body: &'a str, tail: &'a str) -> Option<Parts<'a>>
     ensures parts { option_map shown result ≡ at_end (chars rest.now) (kind, chars body.now, chars tail.now) }
     ensures utf8 { IfSome result (λ p. IsUtf8 p.body.now × IsUtf8 p.tail.now) }

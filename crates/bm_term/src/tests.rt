@@ -2,7 +2,7 @@ use super::*;
 use rdf_text::push_spelling;
 use std::test::Fail;
 
-// Canonical texts with their parts.
+/// Canonical texts with their parts.
 #[test]
 fn canonical_texts_have_their_parts(rt: HostRuntime) -> Result<(), Fail> {
     for (text, kind, body, tail) in [
@@ -53,7 +53,7 @@ fn canonical_texts_have_their_parts(rt: HostRuntime) -> Result<(), Fail> {
     Ok(())
 }
 
-// Texts that are not canonical.
+/// Texts that are not canonical.
 #[test]
 fn other_texts_have_no_parts(rt: HostRuntime) {
     for text in [
@@ -121,8 +121,8 @@ fn other_texts_have_no_parts(rt: HostRuntime) {
     }
 }
 
-// Bytes that are not UTF-8: a byte of no character, a cut one, an overlong one, a surrogate, and a
-// number past 10FFFF.
+/// Bytes that are not UTF-8: a byte of no character, a cut one, an overlong one, a surrogate, and a
+/// number past 10FFFF.
 #[test]
 fn other_bytes_have_no_parts(rt: HostRuntime) {
     for bytes in [
@@ -138,7 +138,7 @@ fn other_bytes_have_no_parts(rt: HostRuntime) {
     }
 }
 
-// A lexical form is spelled in one way, and the spelling is read back.
+/// A lexical form is spelled in one way, and the spelling is read back.
 #[test]
 fn lexical_forms_there_and_back(rt: HostRuntime) -> Result<(), Fail> {
     for (form, text) in [

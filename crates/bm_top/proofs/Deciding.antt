@@ -9,7 +9,7 @@ use Rattle.sparql_parse.specs.Reading.{query_reading, IsMemoryOr}
 use Rattle.sparql_parse.specs.declared.fault.QueryFault.{QueryFault}
 use Rattle.sparql_parse.specs.declared.fault.QueryFault.TheVariants as query_faults
 use Rattle.bm_top.specs.Decide.{IsDecided, from_data, from_query}
-use Rattle.nt_read.specs.Lines.{first_bad, lines_of, triples_of}
+use Rattle.nt_read.specs.scanning.Lines.{first_bad, lines_of, triples_of}
 use Rattle.bm_top.specs.QueryLine.{query_line}
 use Rattle.bm_top.specs.Reading.{IsDataOf}
 use Rattle.bm_top.specs.Tsv.{tsv_text}

@@ -4,7 +4,7 @@ use Rattle.std.specs.declared.alloc.Global.{Global}
 use Rattle.bm_term.specs.declared.triple.Triple.{Triple}
 use Rattle.nt_read.specs.declared.lines.FeedFault.{FeedFault}
 use Rattle.nt_read.specs.declared.lines.FeedFault.TheVariants as faults
-use Rattle.nt_read.specs.Lines.{lines_of, first_bad, triples_of}
+use Rattle.nt_read.specs.scanning.Lines.{lines_of, first_bad, triples_of}
 
 abbrev pub IsDataOf : List ℕ → Result (Vec Triple Global) FeedFault → Type 0
 IsDataOf bytes (Ok triples) = (first_bad bytes ≡ None) × (triples.items ≡ triples_of (lines_of bytes))

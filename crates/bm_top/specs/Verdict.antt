@@ -4,7 +4,7 @@ use Rattle.std.specs.Prelude.{ℕ, List, [], ◌++◌, Option, Some, None, Resul
 use Rattle.std.specs.FinMap.{get}
 use Rattle.bm_term.specs.Graph.{graph_of}
 use Rattle.alg_model.specs.Answers.{AbstractQuery, answers_to}
-use Rattle.nt_read.specs.Lines.{first_bad, lines_of, triples_of}
+use Rattle.nt_read.specs.scanning.Lines.{first_bad, lines_of, triples_of}
 use Rattle.sparql_parse.specs.Reading.{query_reading}
 use Rattle.sparql_parse.specs.declared.fault.QueryFault.{QueryFault}
 use Rattle.bm_world.specs.Meanings.{Files}

@@ -27,7 +27,7 @@ pub record BeginsWithToken (at : ℕ) (whole : List ℕ) (token : Lexeme) (after
   pub bytes : token.text ≡ encode_utf8_all text
   pub place : token.at ≡ at
 
--- the same behind the longest blanks that the text begins with
+-- the same after the longest blanks that the text begins with
 pub record IsNextToken (at : ℕ) (whole : List ℕ) (token : Lexeme) (after : List ℕ) : Type 0 where
   pub blanks : List ℕ
   pub rest : List ℕ

@@ -13,8 +13,9 @@ use Rattle.rdf_text.specs.scanning.Text.{after_first, after_char}
 use Rattle.rdf_text.proofs.TextLemmas.{after_char-some}
 use Rattle.rdf_escapes.specs.Iris.{IsIriRef}
 use Rattle.rdf_escapes.specs.Strings.{is_quote, IsString}
-use Rattle.rdf_escapes.specs.Pieces.{values, after_values}
-use Rattle.rdf_escapes.specs.Reading.{iri_piece, string_piece, read_iri_body, read_iri_ref, read_string_body, read_string}
+use Rattle.rdf_escapes.specs.scanning.Pieces.{values, after_values}
+use Rattle.rdf_escapes.specs.scanning.Iris.{iri_piece, scan_iri_body, scan_iri_ref}
+use Rattle.rdf_escapes.specs.scanning.Strings.{string_piece, scan_string_body, scan_string}
 use Rattle.rdf_escapes.proofs.Members.{iri_values-irichars}
 use Rattle.rdf_escapes.proofs.SpellingLaws.{iri_ref-again, string-again}
 use Rattle.query_tokens.specs.PrefixedNames.{IsPrefixName, IsPrefixed, SpellsLocal}
@@ -27,8 +28,8 @@ use Rattle.query_values.proofs.TermLaws.{lower_characters, other_text}
 use Rattle.query_values.proofs.TokenLaws.{lexical_characters, number_type-irichars, number_type-other, xsd_boolean-irichars, xsd_boolean-other}
 
 -- what is read of a text in brackets is what stands behind the first of them
-read_is_behind : (text rest iri : List ℕ) → read_iri_ref text ≡ Some (iri, rest) → values iri_piece (after_first text) ≡ iri
-unfolding read_iri_ref read_iri_body
+read_is_behind : (text rest iri : List ℕ) → scan_iri_ref text ≡ Some (iri, rest) → values iri_piece (after_first text) ≡ iri
+unfolding scan_iri_ref scan_iri_body
 read_is_behind text rest iri e =
     option_and_then_some _ (after_char less_than text) (iri, rest) e (λ body opens e.
     option_and_then_some _ (after_char greater_than (after_values iri_piece body)) (iri, rest) e (λ end closes e.
@@ -38,14 +39,14 @@ read_is_behind text rest iri e =
 pub iri_of-spells : (token : Lexeme) (iri : List ℕ) → IsIriRef (chars token.text) iri → iri_of token ≡ iri
 unfolding iri_of
 iri_of-spells token iri is =
-    read_is_behind (chars token.text) [] iri (ap read_iri_ref (sym (append-nil (chars token.text))) ∙ iri_ref-again (chars token.text) [] iri is)
+    read_is_behind (chars token.text) [] iri (ap scan_iri_ref (sym (append-nil (chars token.text))) ∙ iri_ref-again (chars token.text) [] iri is)
 
 pub iri_of-irichars : (token : Lexeme) → AreIriChars (iri_of token)
 unfolding iri_of
 iri_of-irichars token = iri_values-irichars (after_first (chars token.text))
 
-read_is_between : (mark : ℕ) (text rest lexical : List ℕ) → read_string mark text ≡ Some (lexical, rest) → between_marks text ≡ lexical
-unfolding read_string read_string_body
+read_is_between : (mark : ℕ) (text rest lexical : List ℕ) → scan_string mark text ≡ Some (lexical, rest) → between_marks text ≡ lexical
+unfolding scan_string scan_string_body
 read_is_between mark text rest lexical e =
     option_and_then_some _ (after_char mark text) (lexical, rest) e (λ body opens e.
     option_and_then_some _ (after_char mark (after_values (string_piece mark) body)) (lexical, rest) e (λ end closes e.
@@ -55,7 +56,7 @@ read_is_between mark text rest lexical e =
 pub lexical_of-spells : (token : Lexeme) (mark : ℕ) (lexical : List ℕ) → is_quote mark ≡ true → IsString mark (chars token.text) lexical → lexical_of token ≡ lexical
 unfolding lexical_of
 lexical_of-spells token mark lexical quote is =
-    read_is_between mark (chars token.text) [] lexical (ap (read_string mark) (sym (append-nil (chars token.text))) ∙ string-again mark (chars token.text) [] lexical quote is)
+    read_is_between mark (chars token.text) [] lexical (ap (scan_string mark) (sym (append-nil (chars token.text))) ∙ string-again mark (chars token.text) [] lexical quote is)
 
 pub prefix_of-spells : (token : Lexeme) (name local : List ℕ) → (name ≡ []) ⊎ IsPrefixName name → chars token.text ≡ name ++ colon ∷ local → prefix_of token ≡ name
 unfolding prefix_of

@@ -8,8 +8,9 @@ use Rattle.rdf_text.specs.Marks.{colon, backslash}
 use Rattle.rdf_text.specs.Classes.{is_irichar}
 use Rattle.bm_term.specs.Canonical.{RdfTerm, iri, plain, tagged, typed, literal_of}
 use Rattle.rdf_text.specs.scanning.Text.{after_first, after_run, before}
-use Rattle.rdf_escapes.specs.Pieces.{values}
-use Rattle.rdf_escapes.specs.Reading.{iri_piece, string_piece}
+use Rattle.rdf_escapes.specs.scanning.Pieces.{values}
+use Rattle.rdf_escapes.specs.scanning.Iris.{iri_piece}
+use Rattle.rdf_escapes.specs.scanning.Strings.{string_piece}
 use Rattle.query_tokens.specs.declared.token.TokenKind.{TokenKind}
 use Rattle.query_tokens.specs.declared.token.TokenKind.TheVariants.{Integer, Decimal}
 use Rattle.query_tokens.specs.Token.{IsToken, Lexeme}

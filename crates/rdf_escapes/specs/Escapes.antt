@@ -5,13 +5,7 @@ use Rattle.std.specs.Int.{is_in_range}
 use Rattle.std.specs.List.{list_all}
 use Rattle.rdf_text.specs.Classes.{is_scalar, is_digit, is_hex}
 use Rattle.rdf_text.specs.Spelling.{echar_value}
-use Rattle.rdf_text.specs.Marks.{backslash}
-
-abbrev pub letter_u : ℕ
-letter_u = 0x75
-
-abbrev pub capital_u : ℕ
-capital_u = 0x55
+use Rattle.rdf_text.specs.Marks.{backslash, letter_u, capital_u}
 
 -- ECHAR ::= '\' [tbnrf"'\]: the text stands for the character
 abbrev pub IsEchar : List ℕ → ℕ → Type 0

@@ -1,10 +1,11 @@
-// What the characters of an IRI and of a string stand for, written as canonical terms have it.
+//! What the characters of an IRI and of a string stand for, written as canonical terms have it.
 ghost use Rattle.std.specs.Prelude.{◌≡◌, ◌++◌, OnOk, OnErr, string_bytes};
 ghost use Rattle.std.specs.Str.{chars, encode_utf8_all};
 ghost use Rattle.rdf_text.specs.Spelling.{escaped};
 ghost use Rattle.rdf_text.specs.Text.{HasFront};
-ghost use Rattle.rdf_escapes.specs.Pieces.{values};
-ghost use Rattle.rdf_escapes.specs.Reading.{iri_piece, string_piece};
+ghost use Rattle.rdf_escapes.specs.scanning.Pieces.{values};
+ghost use Rattle.rdf_escapes.specs.scanning.Iris.{iri_piece};
+ghost use Rattle.rdf_escapes.specs.scanning.Strings.{string_piece};
 
 use crate::iris::iri_piece;
 use crate::strings::string_piece;

@@ -27,6 +27,7 @@ pub record EndsWith (text end cs : List ℕ) : Type 0 where
   pub utf8 : IsUtf8 end
   pub characters : chars end ≡ cs
 
+-- the end of a text of UTF-8 is UTF-8, and its characters are the end of the text's characters
 ends_with : (text front end : List ℕ) → IsUtf8 text → chars text ≡ front ++ end → EndsWith text (encode_utf8_all end) end
 ends_with text front end utf8 split =
     let end_scalars = scalars_back front end (subst (λ xs. all_scalars xs ≡ true) split (scalars-chars text utf8)) in
@@ -40,12 +41,14 @@ module _ (byte char : ℕ → Bool)
     (ascii : (c : ℕ) → c < 128 → byte c ≡ char c)
     (high_byte : (b : ℕ) → nat_le 128 b ≡ true → byte b ≡ true)
     (high_char : (c : ℕ) → 128 ≤ c → scalar c ≡ true → char c ≡ true) where
+  -- bytes beyond ASCII are all members
   high_bytes : (bytes : List ℕ) → list_all (λ b. nat_le 128 b) bytes ≡ true → list_all byte bytes ≡ true
   high_bytes [] all = refl
   high_bytes (b ∷ bs) all =
       let (first, others) = and_parts (nat_le 128 b) (list_all (λ b. nat_le 128 b) bs) all in
       both_true (high_byte b first) (high_bytes bs others)
 
+  -- one character of ASCII more
   ascii_step : (c : ℕ) (cs : List ℕ) → c < 128 → after_run byte (encode_utf8_all cs) ≡ encode_utf8_all (after_run char cs) → after_run byte (encode_utf8_all (c ∷ cs)) ≡ encode_utf8_all (after_run char (c ∷ cs))
   unfolding after_run
   ascii_step c cs small others =
@@ -55,11 +58,13 @@ module _ (byte char : ℕ → Bool)
         | false ↦ rw (encode_ascii c small) refl
       ])
 
+  -- one character beyond ASCII more
   high_step : (c : ℕ) (cs : List ℕ) → 128 ≤ c → scalar c ≡ true → after_run byte (encode_utf8_all cs) ≡ encode_utf8_all (after_run char cs) → after_run byte (encode_utf8_all (c ∷ cs)) ≡ encode_utf8_all (after_run char (c ∷ cs))
   unfolding after_run
   high_step c cs high is others =
       rw (high_char c high is) (after_run-append byte (encode c) (encode_utf8_all cs) (high_bytes (encode c) (encode_is_high c high)) ∙ others)
 
+  -- a run ends in the bytes where it ends in the characters
   after_run-encode : (cs : List ℕ) → all_scalars cs ≡ true → after_run byte (encode_utf8_all cs) ≡ encode_utf8_all (after_run char cs)
   unfolding after_run
   after_run-encode [] scalars = refl
@@ -67,6 +72,7 @@ module _ (byte char : ℕ → Bool)
       let (first, others) = and_parts (scalar c) (all_scalars cs) scalars in
       ⊎_elim (λ small. ascii_step c cs small (after_run-encode cs others)) (λ high. high_step c cs high first (after_run-encode cs others)) (cases_lt c 128)
 
+  -- so in the bytes of any text of UTF-8
   pub byte_run-ends : (text : List ℕ) → IsUtf8 text → EndsWith text (after_run byte text) (after_run char (chars text))
   byte_run-ends text utf8 =
       let (run, all, split) = after_run-split char (chars text) in
@@ -74,29 +80,36 @@ module _ (byte char : ℕ → Bool)
       ap (after_run byte) (sym (encodes-chars text utf8)) ∙ after_run-encode (chars text) (scalars-chars text utf8) in
       rw walked (ends_with text run (after_run char (chars text)) utf8 split)
 
+-- below 128 a byte is an IRICHAR where the character is
 iri_ascii : (c : ℕ) → c < 128 → is_iri_byte c ≡ is_irichar c
 unfolding is_iri_byte
 iri_ascii c small = let below : nat_le 128 c ≡ false = grind (arith, nat_tests) in rw below refl
 
+-- each other byte is one of an IRICHAR
 iri_high_byte : (b : ℕ) → nat_le 128 b ≡ true → is_iri_byte b ≡ true
 unfolding is_iri_byte
 iri_high_byte b high = rw high refl
 
+-- each character beyond ASCII is an IRICHAR
 iri_high_char : (c : ℕ) → 128 ≤ c → scalar c ≡ true → is_irichar c ≡ true
 unfolding is_irichar is_scalar
 iri_high_char c high is = grind (arith, nat_tests)
 
+-- a run of IRICHARs ends in the bytes where it ends in the characters
 pub iri_bytes-ends : (text : List ℕ) → IsUtf8 text → EndsWith text (after_run is_iri_byte text) (after_run is_irichar (chars text))
 iri_bytes-ends text utf8 = byte_run-ends is_iri_byte is_irichar iri_ascii iri_high_byte iri_high_char text utf8
 
+-- below 128 a byte stands for itself where the character does
 raw_ascii : (c : ℕ) → c < 128 → is_raw_byte c ≡ is_raw_char c
 unfolding is_raw_byte is_raw_char is_scalar
 raw_ascii c small = grind (arith, nat_tests)
 
+-- each other byte stands for itself
 raw_high_byte : (b : ℕ) → nat_le 128 b ≡ true → is_raw_byte b ≡ true
 unfolding is_raw_byte
 raw_high_byte b high = rw high refl
 
+-- each character beyond ASCII stands for itself
 raw_high_char : (c : ℕ) → 128 ≤ c → scalar c ≡ true → is_raw_char c ≡ true
 unfolding is_raw_char
 raw_high_char c high is =
@@ -106,6 +119,7 @@ raw_high_char c high is =
       | Some letter ↦ λ e. absurd (omega (arith, escaped_is_ascii c letter e))
     ] refl)
 
+-- a run of such characters ends in the bytes where it ends in the characters
 pub raw_bytes-ends : (text : List ℕ) → IsUtf8 text → EndsWith text (after_run is_raw_byte text) (after_run is_raw_char (chars text))
 raw_bytes-ends text utf8 = byte_run-ends is_raw_byte is_raw_char raw_ascii raw_high_byte raw_high_char text utf8
 
@@ -126,6 +140,7 @@ no_letter-high (b ∷ bs) rest long all =
       | false ↦ λ e. refl
     ] refl
 
+-- where no letter of an escape is first among the characters, none is first among the bytes
 escape_stuck : (cs : List ℕ) → after_escape cs ≡ None → after_escape (encode_utf8_all cs) ≡ None
 escape_stuck [] none = none
 escape_stuck (c ∷ cs) none =
@@ -152,6 +167,7 @@ stuck_bytes (c ∷ cs) none =
           ] refl h
     ] refl none
 
+-- spelled characters end in the bytes where they end in the characters
 pub after_spelled_bytes-ends : (text : List ℕ) → IsUtf8 text → EndsWith text (after_pieces after_spelling text) (after_pieces after_spelling (chars text))
 after_spelled_bytes-ends text utf8 =
     let end = after_pieces after_spelling (chars text) in

@@ -30,10 +30,12 @@ module _ (inner : ℕ → Bool) where
     rw (split, append_assoc dots (c ∷ name) end) refl,
   )
 
+  -- a test or a true one is true
   or_true : (a b : Bool) → b ≡ true → (a || b) ≡ true
   or_true true b e = refl
   or_true false b e = e
 
+  -- what is before the end that is found is a name
   dotted_end-splits : (dots rest : List ℕ) → list_all (is_dotted inner) dots ≡ true → SplitsInName (dots ++ rest) (dotted_end inner (dots ++ rest) rest)
   unfolding dotted_end
   dotted_end-splits dots [] all = ([], inl refl, refl)
@@ -49,6 +51,7 @@ module _ (inner : ℕ → Bool) where
             ] refl
       ] refl
 
+  -- the end is no longer than the text
   length-dotted_end : (text : List ℕ) → length (dotted_end inner text text) ≤ length text
   length-dotted_end text =
       let (name, is, split) = dotted_end-splits [] text refl in
@@ -66,6 +69,7 @@ module _ (inner : ℕ → Bool) where
       ] first
 
 module _ (first inner : ℕ → Bool) where
+  -- what is passed is a dotted name
   pub after_dotted_name-sound : Sound (IsDottedName first inner) (after_dotted_name first inner)
   unfolding after_dotted_name
   after_dotted_name-sound [] rest e = absurd (cc)
@@ -74,6 +78,7 @@ module _ (first inner : ℕ → Bool) where
       let (name, is, split) = dotted_end-splits inner [] cs refl in
       (c ∷ name, (c, name, begins, is, refl), ap (λ xs. c ∷ xs) (split ∙ ap (λ xs. name ++ xs) end))
 
+  -- each dotted name in front is passed
   pub after_dotted_name-reaches : Reaches (IsDottedName first inner) (after_dotted_name first inner)
   unfolding after_dotted_name
   after_dotted_name-reaches front more (c, rest, begins, inl nothing, spelled) =

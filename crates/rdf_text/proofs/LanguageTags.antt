@@ -22,19 +22,23 @@ after_subtag-reads p text rest e =
     let (run, is_run, split, stuck) = after_some-some p after rest some in
     (45 ∷ run, run, (is_run, refl), after_char-some 45 text after found ∙ ap (λ xs. 45 ∷ xs) split, stuck))
 
+-- what a step over a subtag takes is one
 after_subtag-passes : (p : ℕ → Bool) → PassesPieces (IsSubtag p) (after_subtag p)
 after_subtag-passes p text rest e =
     let (front, subtag, is, split, stuck) = after_subtag-reads p text rest e in
     (front, subtag, is, split)
 
+-- such a step goes forward
 pub after_subtag-forward : (p : ℕ → Bool) → GoesForward (after_subtag p)
 after_subtag-forward p text rest e =
     let (front, subtag, (run, spelled), split, stuck) = after_subtag-reads p text rest e in
     omega (arith, ap length split, ap length spelled, length-append front rest)
 
+-- after one subtag the others follow
 pub after_subtags-more : (p : ℕ → Bool) (text rest : List ℕ) → after_subtag p text ≡ Some rest → after_pieces (after_subtag p) text ≡ after_pieces (after_subtag p) rest
 after_subtags-more p text rest e = rw (after_pieces-step (after_subtag p) (after_subtag-forward p) text, e) refl
 
+-- where no subtag is in front, nothing is passed
 pub after_subtags-none : (p : ℕ → Bool) (text : List ℕ) → after_subtag p text ≡ None → after_pieces (after_subtag p) text ≡ text
 after_subtags-none p text e = rw (after_pieces-step (after_subtag p) (after_subtag-forward p) text, e) refl
 
@@ -42,6 +46,7 @@ pub ruleset subtags = (after_subtag-forward, after_subtags-more, after_subtags-n
 
 -- classes without the hyphen
 module _ (letter alphanumeric : ℕ → Bool) (no_letter : letter 45 ≡ false) (no_alphanumeric : alphanumeric 45 ≡ false) where
+  -- what follows the subtags is no longer than the text
   length-after_subtags : (text : List ℕ) → length (after_pieces (after_subtag alphanumeric) text) ≤ length text
   length-after_subtags text =
       let (front, subtags, star, split) = splits (IsSubtag alphanumeric) (after_subtag alphanumeric) (after_subtag-passes alphanumeric) (after_subtag-forward alphanumeric) text in
@@ -52,6 +57,7 @@ module _ (letter alphanumeric : ℕ → Bool) (no_letter : letter 45 ≡ false) 
   unfolding after_subtag
   step subtag rest run = after_some-append alphanumeric subtag rest run
 
+  -- subtags in front are passed
   subtags_reach : (subtags : List (List ℕ)) (text more : List ℕ) → Star (IsSubtag alphanumeric) text subtags → length (after_pieces (after_subtag alphanumeric) (after_run alphanumeric (text ++ more))) ≤ length more
   subtags_reach [] text more star =
       rw star (omega (arith, length-after_subtags (after_run alphanumeric more), length-after_run alphanumeric more))
@@ -77,6 +83,7 @@ module _ (letter alphanumeric : ℕ → Bool) (no_letter : letter 45 ≡ false) 
       )
       (subtags_reach subtags others more star)
 
+  -- each language tag in front is passed
   pub after_language_tag-reaches : Reaches (IsLanguageTag letter alphanumeric) (after_language_tag letter alphanumeric)
   unfolding after_language_tag
   after_language_tag-reaches front more (primary, text, subtags, run, star, spelled) = (
@@ -85,6 +92,7 @@ module _ (letter alphanumeric : ℕ → Bool) (no_letter : letter 45 ≡ false) 
     rest_reaches subtags text more star,
   )
 
+-- what is passed is a language tag
 pub after_language_tag-sound : (letter alphanumeric : ℕ → Bool) → Sound (IsLanguageTag letter alphanumeric) (after_language_tag letter alphanumeric)
 unfolding after_language_tag
 after_language_tag-sound letter alphanumeric text rest e =
@@ -105,14 +113,17 @@ pub no_letter : is_letter 45 ≡ false
 unfolding is_letter
 no_letter = refl
 
+-- the hyphen is no letter or digit
 pub no_alphanumeric : is_alphanumeric 45 ≡ false
 unfolding is_alphanumeric is_letter is_digit
 no_alphanumeric = refl
 
+-- the hyphen is no small letter
 pub no_lower_letter : is_lower_letter 45 ≡ false
 unfolding is_lower_letter
 no_lower_letter = refl
 
+-- the hyphen is no small letter or digit
 pub no_lower_alphanumeric : is_lower_alphanumeric 45 ≡ false
 unfolding is_lower_alphanumeric is_lower_letter is_digit
 no_lower_alphanumeric = refl

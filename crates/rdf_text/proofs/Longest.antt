@@ -1,4 +1,4 @@
--- What a rule's longest text is, from two facts about a reading of it: what it takes is of the rule, and it takes at
+-- What a rule's longest text is, from two facts about a scan of it: what it takes is of the rule, and it takes at
 -- least as much as any text of the rule has.
 use Rattle.std.proofs.Common.{◌≡◌, ℕ, ◌≤◌, Option, Some, None, List, [], ◌++◌, length, ap, ◌∙◌, sym, arith, append_assoc, append-nil, length-append, Bor}
 use Rattle.std.proofs.lemmas.List.{nil_from_length}
@@ -45,6 +45,7 @@ module _ (T : List ℕ → Type 0) (after : List ℕ → Option (List ℕ)) wher
   result_longest sound reaches text None e = tt
   result_longest sound reaches text (Some rest) e = longest sound reaches text (chars rest.now) (sym e)
 
+  -- where nothing is found, the text begins with none of the rule
   pub result_none : Reaches → (text : List ℕ) (result : Option (Bor (List ℕ))) → option_map (λ rest. chars rest.now) result ≡ after text → IfNone result (BeginsWithNone T text)
   result_none reaches text None e = none reaches text (sym e)
   result_none reaches text (Some rest) e = tt

@@ -55,9 +55,11 @@ module _ {V : Type 0} (P : List ℕ → V → Type 0) (step : List ℕ → Optio
     rw same (split ∙ ap (λ xs. front ++ xs) splits ∙ sym (append_assoc front pieces (after_pieces step rest))),
   )
 
+  -- where no piece is in front, nothing is passed
   splits-none : GoesForward step → (text : List ℕ) → step text ≡ None → after_pieces step text ≡ text
   splits-none forward text stuck = rw (after_pieces-step step forward text, stuck) refl
 
+  -- so up to n characters
   splits-up_to : PassesPieces → GoesForward step → (n : ℕ) (text : List ℕ) → length text ≤ n → SplitsInPieces text
   splits-up_to passes forward zero text small =
       elim (step text) as (λ r. step text ≡ r → SplitsInPieces text) [
@@ -74,6 +76,7 @@ module _ {V : Type 0} (P : List ℕ → V → Type 0) (step : List ℕ → Optio
             splits-more text rest front v piece split same (splits-up_to passes forward n rest (omega arith))
       ] refl
 
+  -- each text is pieces and a rest
   pub splits : PassesPieces → GoesForward step → (text : List ℕ) → SplitsInPieces text
   splits passes forward text = splits-up_to passes forward (length text) text (omega arith)
 
@@ -93,10 +96,12 @@ module _ {V : Type 0} (P : List ℕ → V → Type 0) (step : List ℕ → Optio
             rw same (stuck-up_to forward n rest (omega arith))
       ] refl
 
+  -- after all pieces no further step can be made
   pub stuck : GoesForward step → (text : List ℕ) → step (after_pieces step text) ≡ None
   stuck forward text = stuck-up_to forward (length text) text (omega arith)
 
   module _ (MayFollow : List ℕ → Type 0) (piece_may : (front rest : List ℕ) (v : V) → P front v → MayFollow (front ++ rest)) where
+    -- pieces may follow where one of them may
     pieces_may : (vs : List V) (text rest : List ℕ) → Star P text vs → MayFollow rest → MayFollow (text ++ rest)
     pieces_may [] text rest star may = rw star may
     pieces_may (v ∷ vs) text rest (front, others, piece, star, split) may = rw (split, append_assoc front others rest) (piece_may front (others ++ rest) v piece)

@@ -17,6 +17,7 @@ use Rattle.rdf_text.proofs.RepetitionLemmas.{GoesForward, after_pieces-step, Pas
 abbrev pub IsSpelling : List ℕ → ℕ → Type 0
 IsSpelling text c = text ≡ spelling c
 
+-- the letters of escapes are these five
 five_letters : (letter : ℕ) → is_escape_letter letter ≡ true → (letter ≡ 34) ⊎ ((letter ≡ 92) ⊎ ((letter ≡ 110) ⊎ ((letter ≡ 114) ⊎ (letter ≡ 116))))
 unfolding is_escape_letter
 five_letters letter e = grind (arith, nat_tests)
@@ -38,6 +39,7 @@ pub escape_letter-into : (c letter : ℕ) → escape_letter c ≡ Some letter �
 unfolding escape_letter is_escape_letter
 escape_letter-into c letter e = grind (arith, nat_tests)
 
+-- an escape is the spelling of a character
 escape_passes : (c : ℕ) (cs rest : List ℕ) → c ≡ 92 → after_escape cs ≡ Some rest → (front : List ℕ) × (v : ℕ) × IsSpelling front v × (c ∷ cs ≡ front ++ rest)
 escape_passes c [] rest same e = absurd (cc)
 escape_passes c (l ∷ ls) rest same e =
@@ -45,6 +47,7 @@ escape_passes c (l ∷ ls) rest same e =
     let (v, letter) = escape_letter-onto l is_letter in
     (92 ∷ l ∷ [], v, rw letter refl, cc)
 
+-- a raw character is its own spelling
 raw_passes : (c : ℕ) (cs rest : List ℕ) → (if is_none (escape_letter c) then Some cs else None) ≡ Some rest → (front : List ℕ) × (v : ℕ) × IsSpelling front v × (c ∷ cs ≡ front ++ rest)
 raw_passes c cs rest e =
     elim (escape_letter c) as (λ r. escape_letter c ≡ r → (if is_none r then Some cs else None) ≡ Some rest → (front : List ℕ) × (v : ℕ) × IsSpelling front v × (c ∷ cs ≡ front ++ rest)) [
@@ -52,6 +55,7 @@ raw_passes c cs rest e =
       | Some letter ↦ λ raw h. absurd (cc)
     ] refl e
 
+-- what a step takes is the spelling of a character
 after_spelling-passes : PassesPieces IsSpelling after_spelling
 unfolding after_spelling
 after_spelling-passes [] rest e = absurd (cc)
@@ -61,10 +65,12 @@ after_spelling-passes (c ∷ cs) rest e =
       | false ↦ λ f h. raw_passes c cs rest h
     ] refl e
 
+-- a raw character is no backslash
 pub raw_is_no_backslash : (c : ℕ) → escape_letter c ≡ None → (c == 92) ≡ false
 unfolding escape_letter
 raw_is_no_backslash c e = grind (arith, nat_tests)
 
+-- a spelling in front is passed
 pub after_spelling-spelling : (c : ℕ) (rest : List ℕ) → after_spelling (spelling c ++ rest) ≡ Some rest
 unfolding after_spelling
 after_spelling-spelling c rest =
@@ -73,17 +79,21 @@ after_spelling-spelling c rest =
       | Some letter ↦ λ e. rw (escape_letter-into c letter e) refl
     ] refl
 
+-- a spelling has a character at least
 length-spelling : (c : ℕ) → 0 < length (spelling c)
 length-spelling c = elim (escape_letter c) as (λ r. 0 < length (spelled_by c r)) [ None ↦ omega arith | Some letter ↦ omega arith ]
 
+-- a step over a spelling goes forward
 pub after_spelling-forward : GoesForward after_spelling
 after_spelling-forward text rest e =
     let (front, c, spelled, split) = after_spelling-passes text rest e in
     omega (arith, ap length split, ap length spelled, length-append front rest, length-spelling c)
 
+-- after one spelling the others follow
 pub after_spellings-more : (text rest : List ℕ) → after_spelling text ≡ Some rest → after_pieces after_spelling text ≡ after_pieces after_spelling rest
 after_spellings-more text rest e = rw (after_pieces-step after_spelling after_spelling-forward text, e) refl
 
+-- where no spelling is in front, nothing is passed
 pub after_spellings-none : (text : List ℕ) → after_spelling text ≡ None → after_pieces after_spelling text ≡ text
 after_spellings-none text e = rw (after_pieces-step after_spelling after_spelling-forward text, e) refl
 
@@ -94,6 +104,7 @@ spellings_are : (lexical text : List ℕ) → Star IsSpelling text lexical → t
 spellings_are [] text star = star
 spellings_are (c ∷ cs) text (front, rest, spelled, star, split) = let others = spellings_are cs rest star in rw (split, spelled, others) refl
 
+-- spelled characters are spellings in a row
 are_spellings : (lexical : List ℕ) → Star IsSpelling (escaped lexical) lexical
 are_spellings [] = refl
 are_spellings (c ∷ cs) = (spelling c, escaped cs, refl, are_spellings cs, refl)
@@ -116,6 +127,7 @@ pub escaped_is_ascii : (c letter : ℕ) → escape_letter c ≡ Some letter → 
 unfolding escape_letter
 escaped_is_ascii c letter e = grind (arith, nat_tests)
 
+-- the letter of an escape is ASCII
 pub letter_is_ascii : (letter : ℕ) → is_escape_letter letter ≡ true → letter < 128
 unfolding is_escape_letter
 letter_is_ascii letter e = grind (arith, nat_tests)
@@ -133,6 +145,7 @@ all_scalars-spelling c =
           rw (is, letter_is) refl
     ] refl
 
+-- spelled characters are characters where the characters are
 pub all_scalars-escaped : (lexical : List ℕ) → all_scalars (escaped lexical) ≡ all_scalars lexical
 all_scalars-escaped [] = refl
 all_scalars-escaped (c ∷ cs) =

@@ -36,6 +36,7 @@ pub after_run-stop : (p : ℕ → Bool) (d : ℕ) (rest : List ℕ) → p d ≡ 
 unfolding after_run
 after_run-stop p d rest stops = rw stops refl
 
+-- nothing follows the run of an empty text
 pub after_run-nil : (p : ℕ → Bool) → after_run p [] ≡ []
 unfolding after_run
 after_run-nil p = refl
@@ -50,6 +51,7 @@ after_run-after_run p (c ∷ cs) =
       | false ↦ λ e. rw e refl
     ] refl
 
+-- what follows a run is no longer than the text
 pub length-after_run : (p : ℕ → Bool) (cs : List ℕ) → length (after_run p cs) ≤ length cs
 length-after_run p cs = let (run, all, split) = after_run-split p cs in omega (arith, ap length split, length-append run (after_run p cs))
 
@@ -61,6 +63,7 @@ after_char-some d (c ∷ cs) rest e =
     let first = eqb-true c d same in
     cc
 
+-- the run of a text that begins with one, and what follows it
 pub after_some-some : (p : ℕ → Bool) (text rest : List ℕ) → after_some p text ≡ Some rest → (run : List ℕ) × IsRun p run × (text ≡ run ++ rest) × (after_run p rest ≡ rest)
 after_some-some p [] rest e = absurd (cc)
 after_some-some p (c ∷ cs) rest e =
@@ -122,6 +125,7 @@ bytes_eq-chars text ascii text_utf8 is_ascii =
       λ same. (bytes_eq-Decides (chars text) ascii).1 (rw same (chars-IsAscii ascii is_ascii)),
     )
 
+-- bytes below 128 are ASCII
 pub IsAscii-list_all : (bytes : List ℕ) → list_all (λ b. nat_lt b 128) bytes ≡ true → IsAscii bytes
 IsAscii-list_all [] all = IsAscii-nil
 IsAscii-list_all (b ∷ bs) all =

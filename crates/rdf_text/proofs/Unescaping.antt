@@ -12,7 +12,7 @@ use lib.Utf8.{encode, next}
 use lib.Dec.{ltb}
 use Rattle.rdf_text.proofs.Spellings.{raw_is_no_backslash, escaped_is_ascii, letter_is_ascii, escape_letter-into}
 use Rattle.std.specs.Str.{encode_utf8_all}
-use Rattle.rdf_text.specs.Spelling.{escape_letter, spelled_by, spelling, escaped, escaped_value, unescaped, SpellsForm}
+use Rattle.rdf_text.specs.Spelling.{echar_value, escape_letter, spelled_by, spelling, escaped, escaped_value, unescaped, SpellsForm}
 use Rattle.rdf_text.specs.scanning.Spelling.{first_unescaped}
 
 -- character by character
@@ -26,6 +26,7 @@ unescaped-first (b ∷ letter ∷ ls) rest c e =
       | false ↦ λ h. let (first, others) = some_pair_parts b c (letter ∷ ls) rest h in rw (first, ← others) refl
     ] e
 
+-- a step goes forward
 pub first_unescaped-forward : (text rest : List ℕ) (c : ℕ) → first_unescaped text ≡ Some (c, rest) → length rest < length text
 unfolding first_unescaped
 first_unescaped-forward [] rest c e = absurd (cc)
@@ -36,6 +37,7 @@ first_unescaped-forward (b ∷ letter ∷ ls) rest c e =
       | false ↦ λ h. let (first, others) = some_pair_parts b c (letter ∷ ls) rest h in rw (← others) (omega arith)
     ] e
 
+-- nothing is first only in an empty text
 pub first_unescaped-none : (text : List ℕ) → first_unescaped text ≡ None → text ≡ []
 unfolding first_unescaped
 first_unescaped-none [] e = refl
@@ -46,16 +48,19 @@ first_unescaped-none (b ∷ letter ∷ ls) e =
       | false ↦ λ h. absurd (cc)
     ] e
 
+-- nothing is got from nothing
 pub unescaped-nil : unescaped [] ≡ []
 unfolding unescaped
 unescaped-nil = refl
 
 pub ruleset unescaping = (unescaped-first, first_unescaped-forward, first_unescaped-none, unescaped-nil)
 
+-- a letter of an escape stands for the character that has it
 escaped_value-letter : (c letter : ℕ) → escape_letter c ≡ Some letter → escaped_value letter ≡ c
-unfolding escape_letter escaped_value
+unfolding escape_letter escaped_value echar_value
 escaped_value-letter c letter e = grind (arith, nat_tests)
 
+-- a character other than the backslash stands for itself
 unescaped-raw : (c : ℕ) (rest : List ℕ) → (c == 92) ≡ false → unescaped (c ∷ rest) ≡ c ∷ unescaped rest
 unfolding unescaped
 unescaped-raw c [] e = refl
@@ -70,6 +75,7 @@ unescaped-spelling c rest =
       | Some letter ↦ λ e. ap (λ x. x ∷ unescaped rest) (escaped_value-letter c letter e)
     ] refl
 
+-- what was escaped is got back
 pub unescaped-escaped : (lexical : List ℕ) → unescaped (escaped lexical) ≡ lexical
 unfolding unescaped
 unescaped-escaped [] = refl
@@ -83,18 +89,22 @@ spelling-high b high =
       | Some letter ↦ λ e. absurd (omega (arith, escaped_is_ascii b letter e))
     ] refl
 
+-- bytes beyond ASCII are spelled raw
 escaped-high : (bytes : List ℕ) → list_all (λ b. nat_le 128 b) bytes ≡ true → escaped bytes ≡ bytes
 escaped-high [] all = refl
 escaped-high (b ∷ bs) all =
     let (first, others) = and_parts (nat_le 128 b) (list_all (λ b. nat_le 128 b) bs) all in
     rw (spelling-high b (grind (arith, nat_tests)), escaped-high bs others) refl
 
+-- a number from 128 on stays so
 high_sum : (n k : ℕ) → 128 ≤ n → nat_le 128 (n + k) ≡ true
 high_sum n k high = grind (arith, nat_tests)
 
+-- a byte after the first of a character is beyond ASCII
 high_next : (bits : ℕ) → nat_le 128 (next bits) ≡ true
 high_next bits = high_sum 128 (bits % 64) (omega arith)
 
+-- both of two texts are beyond ASCII
 either_high : (v : Bool) (xs ys : List ℕ) → list_all (λ b. nat_le 128 b) xs ≡ true → list_all (λ b. nat_le 128 b) ys ≡ true → list_all (λ b. nat_le 128 b) (cond v xs ys) ≡ true
 either_high true xs ys first second = first
 either_high false xs ys first second = second
@@ -115,9 +125,11 @@ encode_is_high c high =
 raw_ascii : (c : ℕ) → c < 128 → escape_letter c ≡ None → encode_utf8_all (c ∷ []) ≡ escaped (encode c)
 raw_ascii c small e = rw (encode_ascii c small, e) refl
 
+-- the bytes of a character beyond ASCII are their own spelling
 raw_high : (c : ℕ) → 128 ≤ c → encode_utf8_all (c ∷ []) ≡ escaped (encode c)
 raw_high c high = append-nil (encode c) ∙ sym (escaped-high (encode c) (encode_is_high c high))
 
+-- the bytes of a spelling are the spelled bytes
 encode-spelling : (c : ℕ) → encode_utf8_all (spelling c) ≡ escaped (encode c)
 encode-spelling c =
     elim (escape_letter c) as (λ r. escape_letter c ≡ r → encode_utf8_all (spelled_by c r) ≡ escaped (encode c)) [
@@ -128,6 +140,7 @@ encode-spelling c =
           rw (encode_ascii c small, e, encode_ascii 92 (omega arith), encode_ascii letter letter_small) refl
     ] refl
 
+-- so for all characters of a text
 pub encode-escaped : (lexical : List ℕ) → encode_utf8_all (escaped lexical) ≡ escaped (encode_utf8_all lexical)
 encode-escaped [] = refl
 encode-escaped (c ∷ cs) =

@@ -2,6 +2,7 @@
 -- N-Triples 1.1, section 7; SPARQL 1.1 Query, section 19.8.
 use Rattle.std.specs.Prelude.{ℕ, Bool, ◌&&◌, ◌||◌, ◌==◌, not, nat_lt}
 use Rattle.std.specs.Int.{is_in_range}
+use Rattle.rdf_text.specs.Marks.{line_feed, carriage_return}
 
 -- a Unicode scalar value: at most 10FFFF, and no surrogate
 unfoldable pub is_scalar : ℕ → Bool
@@ -77,3 +78,11 @@ is_nt_label_first c = is_nt_pn_chars_u c || is_digit c
 
 unfoldable pub is_sparql_label_first : ℕ → Bool
 is_sparql_label_first c = is_sparql_pn_chars_u c || is_digit c
+
+-- LF | CR
+abbrev pub is_line_end : ℕ → Bool
+is_line_end c = c == line_feed || c == carriage_return
+
+-- what a comment may have after its '#': [^#xD#xA]
+unfoldable pub is_comment_char : ℕ → Bool
+is_comment_char c = not (is_line_end c)

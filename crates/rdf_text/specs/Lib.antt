@@ -1,4 +1,5 @@
 pub mod Classes
+pub mod Comments
 pub mod Marks
 pub mod Names
 pub mod Repetition

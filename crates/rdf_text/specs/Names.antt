@@ -2,7 +2,8 @@
 -- N-Triples 1.1, section 7, and SPARQL 1.1 Query, section 19.8, each over its own classes of characters.
 use Rattle.std.specs.Prelude.{◌≡◌, ℕ, Bool, ◌||◌, ◌==◌, ◌⊎◌, IsTrue, List, [], ◌∷◌, ◌++◌}
 use Rattle.std.specs.List.{list_all}
-use Rattle.rdf_text.specs.Marks.{full_stop, hyphen}
+use Rattle.rdf_text.specs.Marks.{hyphen, full_stop, colon, at_sign, low_line}
+use Rattle.rdf_text.specs.Classes.{is_letter, is_alphanumeric}
 use Rattle.rdf_text.specs.Text.{IsRun}
 use Rattle.rdf_text.specs.Repetition.{Star}
 
@@ -29,3 +30,11 @@ abbrev pub IsLanguageTag : (ℕ → Bool) → (ℕ → Bool) → List ℕ → Ty
 IsLanguageTag letter alphanumeric tag =
     (primary : List ℕ) × (rest : List ℕ) × (subtags : List (List ℕ))
     × IsRun letter primary × Star (IsSubtag alphanumeric) rest subtags × (tag ≡ primary ++ rest)
+
+-- LANGTAG ::= '@' [a-zA-Z]+ ('-' [a-zA-Z0-9]+)*, with the tag as it is written
+abbrev pub IsLangtag : List ℕ → List ℕ → Type 0
+IsLangtag text tag = IsLanguageTag is_letter is_alphanumeric tag × (text ≡ at_sign ∷ tag)
+
+-- BLANK_NODE_LABEL ::= '_:' first ((inner | '.')* inner)?, with the label
+abbrev pub IsBlankNodeLabel : (ℕ → Bool) → (ℕ → Bool) → List ℕ → List ℕ → Type 0
+IsBlankNodeLabel first inner text label = IsDottedName first inner label × (text ≡ low_line ∷ colon ∷ label)

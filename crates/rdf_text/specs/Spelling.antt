@@ -1,6 +1,6 @@
 -- How the characters of a literal are spelled: raw, or escaped by a backslash and a letter.
 -- ECHAR ::= '\' [tbnrf"'\]. N-Triples 1.1, section 7; of its spellings a canonical literal has one for each character.
-use Rattle.std.specs.Prelude.{◌≡◌, ℕ, ◌==◌, ◌||◌, if◌then◌else◌, IsTrue, Option, Some, None, List, [], ◌∷◌}
+use Rattle.std.specs.Prelude.{unwrap_or, ◌≡◌, ℕ, ◌==◌, ◌||◌, if◌then◌else◌, IsTrue, Option, Some, None, List, [], ◌∷◌}
 use Rattle.std.specs.List.{flat_map}
 use Rattle.std.specs.Str.{all_scalars, encode_utf8_all}
 use Rattle.rdf_text.specs.Marks.{backspace, tab, line_feed, form_feed, carriage_return, quotation_mark, apostrophe, backslash, letter_b, letter_f, letter_n, letter_r, letter_t}
@@ -44,12 +44,9 @@ pub record SpellsForm (body lexical : List ℕ) : Type 0 where
 abbrev pub IsBody : List ℕ → Type 0
 IsBody body = (lexical : List ℕ) × SpellsForm body lexical
 
--- the character for which a letter stands in a canonical literal, after a backslash
+-- the character for which a letter stands after a backslash, where it stands for one; else the letter
 unfoldable pub escaped_value : ℕ → ℕ
-escaped_value letter =
-    if letter == letter_n then line_feed
-    else (if letter == letter_r then carriage_return
-    else (if letter == letter_t then tab else letter))
+escaped_value letter = unwrap_or (echar_value letter) letter
 
 -- a text with each backslash and the letter after it replaced by what they stand for
 unfoldable pub unescaped : List ℕ → List ℕ

@@ -28,3 +28,11 @@ pub record FollowsLongest (Rule : List ℕ → Type 0) (whole rest : List ℕ) :
 -- the whole begins with no text of the rule
 abbrev pub BeginsWithNone : (List ℕ → Type 0) → List ℕ → Type 0
 BeginsWithNone Rule whole = (text rest : List ℕ) → Rule text → whole ≢ text ++ rest
+
+-- the text is one of the rule, whatever it stands for
+abbrev pub IsOf : {V : Type 0} → (List ℕ → V → Type 0) → List ℕ → Type 0
+IsOf {V} R text = (value : V) × R text value
+
+-- the text begins with one of the rule, which stands for the value, and the rest follows it
+abbrev pub BeginsWith : {V : Type 0} → (List ℕ → V → Type 0) → List ℕ → V → List ℕ → Type 0
+BeginsWith R text value rest = (front : List ℕ) × R front value × (text ≡ front ++ rest)

@@ -1,8 +1,8 @@
-// The classes of characters as types, for the walks over a text that take one.
+//! The classes of characters as types, for the walks over a text that take one.
 ghost use Rattle.rdf_text.specs.Classes as of;
 
 use crate::classes::{
-    is_alphanumeric, is_letter, is_lower_alphanumeric, is_lower_letter, is_nt_label_first,
+    is_alphanumeric, is_comment_char, is_letter, is_lower_alphanumeric, is_lower_letter, is_nt_label_first,
     is_nt_pn_chars, is_pn_chars_base, is_sparql_label_first, is_sparql_pn_chars,
 };
 use crate::text::CharClass;
@@ -112,5 +112,17 @@ impl CharClass for SparqlPnChars {
 
     fn has(self, c: char) -> bool {
         is_sparql_pn_chars(c as u32)
+    }
+}
+
+/// See [`is_comment_char`].
+#[derive(Clone, Copy)]
+pub struct CommentChar;
+
+impl CharClass for CommentChar {
+    ghost members = { of.is_comment_char };
+
+    fn has(self, c: char) -> bool {
+        is_comment_char(c as u32)
     }
 }

@@ -1,6 +1,6 @@
-// The classes of characters that the grammars of N-Triples and of SPARQL name.
+//! The classes of characters that the grammars of N-Triples and of SPARQL name.
 ghost use Rattle.std.specs.Prelude.{◌≡◌};
-ghost use Rattle.rdf_text.specs.Classes.{is_scalar, is_letter, is_lower_letter, is_digit, is_hex, is_pn_chars_base, is_sparql_pn_chars_u, is_nt_pn_chars_u, is_pn_chars_more, is_sparql_pn_chars, is_nt_pn_chars, is_irichar, is_lower_alphanumeric, is_alphanumeric, is_nt_label_first, is_sparql_label_first};
+ghost use Rattle.rdf_text.specs.Classes.{is_scalar, is_letter, is_lower_letter, is_digit, is_hex, is_pn_chars_base, is_sparql_pn_chars_u, is_nt_pn_chars_u, is_pn_chars_more, is_sparql_pn_chars, is_nt_pn_chars, is_irichar, is_lower_alphanumeric, is_alphanumeric, is_nt_label_first, is_sparql_label_first, is_comment_char};
 
 /// Whether the number is a Unicode scalar value: at most 10FFFF, and no surrogate.
 #[tactic(auto, unfolding(crate::specs::Classes::is_scalar))]
@@ -98,7 +98,7 @@ pub fn is_nt_pn_chars(c: u32) -> bool
     is_nt_pn_chars_u(c) || is_pn_chars_more(c)
 }
 
-// What PN_CHARS has besides PN_CHARS_U.
+/// What PN_CHARS has besides PN_CHARS_U.
 #[tactic(auto, unfolding(crate::specs::Classes::is_pn_chars_more))]
 fn is_pn_chars_more(c: u32) -> bool
     ensures { result ≡ is_pn_chars_more c }
@@ -150,4 +150,12 @@ pub fn is_sparql_label_first(c: u32) -> bool
     ensures { result ≡ is_sparql_label_first c }
 {
     is_sparql_pn_chars_u(c) || is_digit(c)
+}
+
+/// What a comment may have after its `#`: every character but LF and CR.
+#[tactic(auto, unfolding(crate::specs::Classes::is_comment_char))]
+pub fn is_comment_char(c: u32) -> bool
+    ensures { result ≡ is_comment_char c }
+{
+    !matches!(c, 0xA | 0xD)
 }

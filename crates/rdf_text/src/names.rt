@@ -1,4 +1,4 @@
-// Names with dots inside, and language tags: each ends where the longest one does.
+//! Names with dots inside, and language tags: each ends where the longest one does.
 ghost use Rattle.std.specs.Prelude.{◌≡◌, false, IfSome, IfNone};
 ghost use Rattle.std.specs.Option.{option_map};
 ghost use Rattle.std.specs.Str.{chars, IsUtf8};
@@ -33,7 +33,7 @@ fn read_dotted_name<F: CharClass, I: CharClass>(text: &str, first: F, inner: I) 
     }
 }
 
-// The text after the last character that the name may end with.
+/// The text after the last character that the name may end with.
 #[tactic(auto, unfolding(crate::specs::scanning::Names::dotted_end))]
 fn dotted_end<I: CharClass>(text: &str, inner: I) -> &str
     ensures { chars result.now ≡ dotted_end I.members (chars text.now) (chars text.now) }

@@ -1,4 +1,4 @@
-// Runs of characters that are walked byte by byte: each character beyond ASCII belongs to them.
+//! Runs of characters that are walked byte by byte: each character beyond ASCII belongs to them.
 ghost use Rattle.std.specs.Prelude.{◌≡◌, ℕ, Bool, is_none};
 ghost use Rattle.std.specs.List.{list_all};
 ghost use Rattle.std.specs.Option.{option_map};
@@ -25,10 +25,10 @@ pub fn after_raw_chars(text: &str) -> &str
     end_of(text, after_byte_run(text.as_bytes(), RawByte))
 }
 
-// How many bytes are tested at once.
+/// How many bytes are tested at once.
 const BLOCK: usize = 16;
 
-// A class of bytes, whose test takes no branch.
+/// A class of bytes, whose test takes no branch.
 trait ByteClass: Copy {
     ghost members: { ℕ → Bool };
 
@@ -36,7 +36,7 @@ trait ByteClass: Copy {
         ensures { result ≡ members b };
 }
 
-// The bytes of IRICHARs: each byte of a character beyond ASCII, which all are members.
+/// The bytes of IRICHARs: each byte of a character beyond ASCII, which all are members.
 #[derive(Clone, Copy)]
 struct IriByte;
 
@@ -58,7 +58,7 @@ impl ByteClass for IriByte {
     }
 }
 
-// The bytes of characters that stand for themselves in a canonical literal.
+/// The bytes of characters that stand for themselves in a canonical literal.
 #[derive(Clone, Copy)]
 struct RawByte;
 
@@ -71,7 +71,7 @@ impl ByteClass for RawByte {
     }
 }
 
-// Whether all bytes are members. Each is tested, so that the test is made for many at once.
+/// Whether all bytes are members. Each is tested, so that the test is made for many at once.
 fn are_members<C: ByteClass>(block: &[u8], class: C) -> bool
     ensures { result ≡ list_all C.members block.now }
 {
@@ -82,7 +82,7 @@ fn are_members<C: ByteClass>(block: &[u8], class: C) -> bool
     all
 }
 
-// What is left behind blocks of members.
+/// What is left after blocks of members.
 fn after_blocks<C: ByteClass>(bytes: &[u8], class: C) -> &[u8]
     ensures { after_run C.members result.now ≡ after_run C.members bytes.now }
 {
@@ -128,7 +128,7 @@ fn after_spelled_bytes(bytes: &[u8]) -> &[u8]
     rest
 }
 
-// What follows one character of ASCII as it is spelled, or one byte of another character.
+/// What follows one character of ASCII as it is spelled, or one byte of another character.
 #[tactic(auto, unfolding(crate::specs::scanning::Spelling::after_spelling))]
 fn after_spelling(bytes: &[u8]) -> Option<&[u8]>
     ensures { option_map (λ rest. rest.now) result ≡ after_spelling bytes.now }
@@ -156,7 +156,7 @@ fn is_escape_letter(b: u8) -> bool
     matches!(b, b'"' | b'\\' | b'n' | b'r' | b't')
 }
 
-// Whether the byte stands for itself in a literal.
+/// Whether the byte stands for itself in a literal.
 #[tactic(auto, unfolding(crate::specs::Spelling::escape_letter))]
 fn is_raw(b: u8) -> bool
     ensures { result ≡ is_none (escape_letter b) }
@@ -164,7 +164,7 @@ fn is_raw(b: u8) -> bool
     (b != b'"') & (b != b'\\') & (b != b'\n') & (b != b'\r') & (b != b'\t')
 }
 
-// The end of a text, which has these bytes.
+/// The end of a text, which has these bytes.
 fn end_of<'a>(text: &'a str, rest: &[u8]) -> &'a str
     requires ends { HasRest text.now rest.now }
     requires utf8 { IsUtf8 rest.now }

@@ -1,4 +1,4 @@
-// How characters are escaped in literals.
+//! How characters are escaped in literals.
 ghost use Rattle.std.specs.Prelude.{◌≡◌, ℕ, List, [], ◌∷◌, ◌++◌, IfOk, OnOk, OnErr, string_bytes};
 ghost use Rattle.std.specs.Option.{option_map};
 ghost use Rattle.std.specs.Str.{encode_utf8_all, IsUtf8};
@@ -50,7 +50,7 @@ pub fn unescape(alloc: Global, body: &[u8]) -> Result<Vec<u8>, AllocError>
     unescaped(alloc, body)
 }
 
-// The bytes with each escape replaced by what it stands for.
+/// The bytes with each escape replaced by what it stands for.
 #[tactic(auto, using(crate::proofs::Unescaping::unescaping))]
 fn unescaped(alloc: Global, body: &[u8]) -> Result<Vec<u8>, AllocError>
     ensures { IfOk result (λ form. form.items ≡ unescaped body.now) }
@@ -75,14 +75,17 @@ fn first_unescaped(body: &[u8]) -> Option<(u8, &[u8])>
     }
 }
 
-#[tactic(auto, unfolding(crate::specs::Spelling::escaped_value))]
+/// The byte that a letter stands for after a backslash, or the letter where it stands for none.
+#[tactic(auto, unfolding(crate::specs::Spelling::escaped_value, crate::specs::Spelling::echar_value))]
 fn escaped_value(letter: u8) -> u8
     ensures { result ≡ escaped_value letter }
 {
     match letter {
+        b't' => b'\t',
+        b'b' => 0x8,
         b'n' => b'\n',
         b'r' => b'\r',
-        b't' => b'\t',
+        b'f' => 0xC,
         _ => letter,
     }
 }
@@ -98,7 +101,7 @@ pub fn push_spelling(out: &mut String, c: char) -> Result<(), AllocError>
     }
 }
 
-// The backslash and the letter of an escaped character.
+/// The backslash and the letter of an escaped character.
 #[tactic(auto, unfolding(crate::specs::Spelling::escape_letter))]
 fn escape_text(c: char) -> Option<&'static str>
     ensures { option_map (λ escape. escape.now) result ≡ option_map (λ letter. backslash ∷ letter ∷ []) (escape_letter c) }

@@ -1,9 +1,9 @@
 use super::*;
 use std::test::Fail;
 
-// The edges of each class: a code point, and the classes that have it. b is PN_CHARS_BASE, N and n
-// are PN_CHARS_U and PN_CHARS of N-Triples, S and s those of SPARQL, i is IRICHAR, h is HEX, and c is
-// a character.
+/// The edges of each class: a code point, and the classes that have it. b is PN_CHARS_BASE, N and n
+/// are PN_CHARS_U and PN_CHARS of N-Triples, S and s those of SPARQL, i is IRICHAR, h is HEX, and c is
+/// a character.
 const EDGES: &str = "\
 0 c
 20 c
@@ -118,7 +118,7 @@ fn classes_at_their_edges(rt: HostRuntime) -> Result<(), Fail> {
     Ok(())
 }
 
-// Each escape, and its letter.
+/// Each escape, and its letter.
 #[test]
 fn escapes_and_their_letters(rt: HostRuntime) {
     for (letter, value) in [
@@ -151,7 +151,7 @@ fn escapes_and_their_letters(rt: HostRuntime) {
     }
 }
 
-// A run ends at the first character that is none of it, in a block of bytes, at its end and after it.
+/// A run ends at the first character that is none of it, in a block of bytes, at its end and after it.
 #[test]
 fn runs_end_where_they_do(rt: HostRuntime) {
     for (text, after_iri, after_raw) in [
@@ -175,7 +175,7 @@ fn letters_of_ascii_are_put_in_lower_case(rt: HostRuntime) -> Result<(), Fail> {
     Ok(())
 }
 
-// A name and a tag end where the longest does.
+/// A name and a tag end where the longest does.
 #[test]
 #[tactic(auto, using(crate::proofs::LanguageTags::hyphens))]
 fn names_end_where_the_longest_does(rt: HostRuntime) {

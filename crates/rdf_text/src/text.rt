@@ -1,4 +1,4 @@
-// Walking a text from its front.
+//! Walking a text from its front.
 ghost use Rattle.std.specs.Prelude.{◌≡◌, ◌==◌, ℕ, Bool, IfSome, length};
 ghost use Rattle.std.specs.Option.{option_map};
 ghost use Rattle.std.specs.Str.{chars, IsUtf8};

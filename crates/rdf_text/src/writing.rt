@@ -1,4 +1,4 @@
-// What is written of a text, character by character.
+//! What is written of a text, character by character.
 ghost use Rattle.std.specs.Prelude.{◌≡◌, ◌++◌, map, OnOk, OnErr, string_bytes};
 ghost use Rattle.std.specs.Char.{to_ascii_lowercase};
 ghost use Rattle.std.specs.Str.{chars, encode_utf8_all};

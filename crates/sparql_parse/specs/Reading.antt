@@ -3,8 +3,9 @@ use Rattle.std.specs.Prelude.{◌≡◌, ◌⊎◌, ℕ, zero, suc, ◌+◌, Boo
 use Rattle.std.specs.Str.{chars, encode_utf8_all, is_utf8}
 use Rattle.std.specs.Str.Lossy.{utf8_valid_len}
 use Rattle.rdf_text.specs.scanning.Text.{before}
-use Rattle.query_tokens.specs.Blanks.{after_blanks}
-use Rattle.query_tokens.specs.Scanning.{Read, read_or_bad}
+use Rattle.query_tokens.specs.scanning.Blanks.{after_blanks}
+use Rattle.query_tokens.specs.scanning.ScannedToken.{ScannedToken}
+use Rattle.query_tokens.specs.scanning.Tokens.{scan_or_bad}
 use Rattle.query_tokens.specs.Token.{Lexeme}
 use Rattle.query_grammar.specs.declared.expect.Expect.{Expect}
 use Rattle.query_grammar.specs.declared.expect.Expect.TheVariants as expects
@@ -29,7 +30,7 @@ is_nothing [] = true
 is_nothing (c ∷ cs) = false
 
 -- the token that a text begins with, and the rest is what follows it
-abbrev pub token_before : ℕ → List ℕ → Read → Lexeme
+abbrev pub token_before : ℕ → List ℕ → ScannedToken → Lexeme
 token_before at text found = record { kind = found.0; text = encode_utf8_all (before text found.1); at = at }
 
 -- at most n tokens of a text that begins at this byte of the source
@@ -37,7 +38,7 @@ unfoldable pub tokens_from : ℕ → ℕ → List ℕ → List Lexeme
 tokens_from zero at whole = []
 tokens_from (suc n) at whole =
     let rest = after_blanks whole in
-    let found = read_or_bad rest in
+    let found = scan_or_bad rest in
     let token = token_before (at + length (encode_utf8_all (before whole rest))) rest found in
     if is_nothing rest then [] else token ∷ tokens_from n (token.at + length token.text) found.1
 

@@ -1,7 +1,7 @@
 use Rattle.std.proofs.Common.{◌≡◌, [], Ok, ◌∙◌, ap, arith}
 use Rattle.std.proofs.lemmas.Grind.{common_steps}
 use Rattle.bm_term.specs.Kept.{Kept}
-use Rattle.nt_read.specs.Lines.{lines_of, triples_of}
+use Rattle.nt_read.specs.scanning.Lines.{lines_of, triples_of}
 use Rattle.bm_top.proofs.DataTriples.{list_taken}
 use Rattle.bm_top.proofs.data.read_data.Goals as goal
 

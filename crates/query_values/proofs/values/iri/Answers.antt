@@ -1,8 +1,8 @@
 use Rattle.std.proofs.Common.{◌++◌, ◌∙◌, ap}
 use Rattle.std.proofs.lemmas.Str.{chars-encodes}
 use Rattle.std.specs.Str.{chars, encode_utf8_all}
-use Rattle.rdf_escapes.specs.Pieces.{values}
-use Rattle.rdf_escapes.specs.Reading.{iri_piece}
+use Rattle.rdf_escapes.specs.scanning.Pieces.{values}
+use Rattle.rdf_escapes.specs.scanning.Iris.{iri_piece}
 use Rattle.rdf_escapes.proofs.Members.{iri_values-irichars, irichars_are_characters}
 use Rattle.rdf_text.specs.scanning.Text.{after_first}
 use Rattle.query_values.specs.Values.{iri_of}

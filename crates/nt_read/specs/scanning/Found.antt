@@ -1,4 +1,4 @@
--- The terms that stand for what is found in a line.
+-- Carries proofs only: the terms for which the parts of a line stand, as the code keeps them.
 use Rattle.std.specs.Prelude.{◌≡◌, ℕ, List, map, length}
 use Rattle.std.specs.Char.{to_ascii_lowercase}
 use Rattle.std.specs.Str.{chars, IsUtf8}
@@ -6,23 +6,24 @@ use Rattle.rdf_text.specs.Marks.{quotation_mark}
 use Rattle.bm_term.specs.Canonical.{RdfTerm, iri, blank, plain, tagged, literal_of, IsTerm, canonical_chars}
 use Rattle.rdf_text.specs.scanning.Text.{after_first}
 use Rattle.bm_term.specs.declared.triple.Triple.{Triple}
-use Rattle.nt_read.specs.declared.found.Quoted.{Quoted}
-use Rattle.nt_read.specs.declared.found.Quoted.TheVariants.{Raw, Escaped}
+use Rattle.nt_read.specs.declared.found.FoundText.{FoundText}
+use Rattle.nt_read.specs.declared.found.FoundText.TheVariants.{Raw, Escaped}
 use Rattle.nt_read.specs.declared.found.LiteralTail.{LiteralTail}
 use Rattle.nt_read.specs.declared.found.LiteralTail.TheVariants.{Nothing, Tag, Datatype}
 use Rattle.nt_read.specs.declared.found.FoundTerm.{FoundTerm}
 use Rattle.nt_read.specs.declared.found.FoundTerm.TheVariants.{Iri, Blank, Literal}
 use Rattle.nt_read.specs.declared.found.FoundTriple.{FoundTriple}
-use Rattle.rdf_escapes.specs.Pieces.{values}
-use Rattle.rdf_escapes.specs.Reading.{iri_piece, string_piece}
+use Rattle.rdf_escapes.specs.scanning.Pieces.{values}
+use Rattle.rdf_escapes.specs.scanning.Iris.{iri_piece}
+use Rattle.rdf_escapes.specs.scanning.Strings.{string_piece}
 use Rattle.nt_read.specs.Line.{triple_of}
 
 -- the characters of an IRI, and those of a lexical form
-unfoldable pub iri_of : Quoted → List ℕ
+unfoldable pub iri_of : FoundText → List ℕ
 iri_of (Raw text) = values iri_piece (after_first (chars text.now))
 iri_of (Escaped body) = values iri_piece (chars body.now)
 
-unfoldable pub lexical_of : Quoted → List ℕ
+unfoldable pub lexical_of : FoundText → List ℕ
 lexical_of (Raw text) = values (string_piece quotation_mark) (after_first (chars text.now))
 lexical_of (Escaped body) = values (string_piece quotation_mark) (chars body.now)
 
@@ -34,7 +35,7 @@ unfoldable pub tag_of : List ℕ → List ℕ
 tag_of text = map to_ascii_lowercase (chars text)
 
 -- how many bytes of a text are copied at once
-abbrev pub raw_length : Quoted → ℕ
+abbrev pub raw_length : FoundText → ℕ
 raw_length (Raw text) = length text.now
 raw_length (Escaped body) = 0
 
@@ -42,11 +43,11 @@ raw_length (Escaped body) = 0
 abbrev pub IsRawTextOf : List ℕ → RdfTerm → Type 0
 IsRawTextOf text term = IsUtf8 text × (chars text ≡ canonical_chars term)
 
-abbrev pub IsIriText : Quoted → Type 0
+abbrev pub IsIriText : FoundText → Type 0
 IsIriText (Raw text) = IsRawTextOf text.now (iri (iri_of (Raw text)))
 IsIriText (Escaped body) = IsUtf8 body.now
 
-abbrev pub IsStringText : Quoted → Type 0
+abbrev pub IsStringText : FoundText → Type 0
 IsStringText (Raw text) = IsRawTextOf text.now (plain (lexical_of (Raw text)))
 IsStringText (Escaped body) = IsUtf8 body.now
 
