@@ -13,7 +13,7 @@ use Rattle.alg_model.specs.Eval.{as_terms, eval}
 use Rattle.alg_model.specs.Pattern.{algebra_of}
 use Rattle.alg_model.proofs.InOrder.{in_order-is, set_of-dedup}
 use Rattle.alg_model.proofs.RowOrder.{row_cmp-total, row_cmp-exact}
-use Rattle.bm_top.specs.RowOrder.{rows_tie}
+use Rattle.bm_top.specs.steps.RowOrder.{rows_tie}
 
 -- two rows are the same
 abbrev same_rows : Row (List ℕ) → Row (List ℕ) → Bool

@@ -9,13 +9,13 @@ use Rattle.nt_read.specs.declared.lines.FeedFault.TheVariants as feed_faults
 use Rattle.sparql_parse.specs.Reading.{query_reading, IsMemoryOr}
 use Rattle.sparql_parse.specs.declared.fault.QueryFault.{QueryFault}
 use Rattle.sparql_parse.specs.declared.fault.QueryFault.TheVariants as query_faults
-use Rattle.bm_top.specs.Decide.{IsDecided, from_data, from_query}
+use Rattle.bm_top.specs.steps.Decide.{IsDecided, from_data, from_query}
 use Rattle.nt_read.specs.scanning.Lines.{first_bad, lines_of, triples_of}
 use Rattle.bm_top.specs.Lines.{fault_line}
-use Rattle.bm_top.specs.Reading.{IsDataOf}
+use Rattle.bm_top.specs.steps.Data.{IsDataOf}
 use Rattle.bm_top.specs.Tsv.{tsv_text}
 use Rattle.bm_top.specs.Verdict.{answered, refused}
-use Rattle.bm_top.specs.VerdictOf.{answering, deciding, decided}
+use Rattle.bm_top.specs.steps.VerdictOf.{answering, deciding, decided}
 
 -- the data was refused
 pub decided-data : (bytes text : List ℕ) (fault : FeedFault) → IsDataOf bytes (Err fault) → IsDecided (decided bytes text) (Err (from_data fault))

@@ -9,7 +9,7 @@ use Rattle.bm_world.specs.Meanings.{Files}
 use Rattle.bm_top.specs.Lines.{fault_line, usage_line, write_fault_line, out_of_memory_line}
 use Rattle.bm_top.specs.Tsv.{tsv_text}
 use Rattle.bm_top.specs.Verdict.{answered, refused}
-use Rattle.bm_top.specs.VerdictOf.{within, reading_file, deciding, verdict_of}
+use Rattle.bm_top.specs.steps.VerdictOf.{within, reading_file, deciding, verdict_of}
 
 -- a query with two columns
 abbrev two_columns : AbstractQuery

@@ -8,12 +8,12 @@ use Rattle.bm_world.proofs.Steps.{Step-then}
 use Rattle.bm_top.specs.declared.ending.Ending.{Ending}
 use Rattle.bm_top.specs.declared.ending.Ending.TheVariants as ends
 use Rattle.bm_top.specs.Command.{names_read, request_of}
-use Rattle.bm_top.specs.Ending.{EndsSo, HasReason, line_of, status_of}
+use Rattle.bm_top.specs.steps.Ending.{EndsSo, HasReason, line_of, status_of}
 use Rattle.bm_top.specs.Lines.{read_fault_line}
 use Rattle.bm_top.specs.Run.{Complains, HasCauses, IsComplete, IsHonest, KeepsPromises, LeavesFiles, OnlyComplains, OpensInTurn, Outputs}
 use Rattle.bm_top.specs.Standard.{IsVerdict}
 use Rattle.bm_top.specs.Verdict.{Verdict, refused}
-use Rattle.bm_top.specs.VerdictOf.{verdict_of}
+use Rattle.bm_top.specs.steps.VerdictOf.{verdict_of}
 use Rattle.bm_top.proofs.Promises.{Complains-ended, IsComplete-ended, IsHonest-ended, LeavesFiles-ended, OnlyComplains-said, OpensInTurn-said, Outputs-ended, refusal_status-is}
 use Rattle.bm_top.proofs.StandardLaws.{answers-printed, of_verdict, verdict_of-is}
 use Rattle.bm_top.proofs.StepsDone.{IsSomeAnd-wider, Step-known}

@@ -12,7 +12,7 @@ use Rattle.bm_top.specs.declared.refusal.Refusal.{Refusal}
 use Rattle.bm_top.specs.declared.refusal.Refusal.TheVariants as refusals
 use Rattle.bm_top.specs.Lines.{refusal_status, refusal_line, read_fault_line}
 use Rattle.bm_top.specs.Verdict.{Verdict, refused, files_after, HasFrontOf}
-use Rattle.bm_top.specs.Ending.{EndsSo, HasReason, Leaves, ReadsOnly, status_of, line_of}
+use Rattle.bm_top.specs.steps.Ending.{EndsSo, HasReason, Leaves, ReadsOnly, status_of, line_of}
 use Rattle.bm_top.specs.Run.{IsComplete, IsHonest, LeavesFiles, OnlyComplains, OpensInTurn, Outputs, ComplainsLine, Complains}
 
 -- the status of a refusal is none of 0, 5, 6 and 7

@@ -28,7 +28,7 @@ use Rattle.bm_top.specs.Tsv.{tsv_text}
 use Rattle.bm_top.specs.Run.{IsComplete, Outputs, Prints}
 use Rattle.bm_top.specs.Standard.{AreNTriples, IsAnswer, IsBadData, IsRefusal, IsRefusedFor, IsDecidedBy, missing, too_long, read, IsAnswerOrRefusal, bad_data, bad_query, answer, IsAskVerdict, IsVerdict, usage, asks, Asks}
 use Rattle.bm_top.specs.Verdict.{Verdict, answered, refused}
-use Rattle.bm_top.specs.VerdictOf.{within, reading_file, reading, deciding, decided, query_verdict, request_verdict, verdict_at, verdict_of}
+use Rattle.bm_top.specs.steps.VerdictOf.{within, reading_file, reading, deciding, decided, query_verdict, request_verdict, verdict_at, verdict_of}
 
 -- data without a bad line, and its triples
 record IsRead (bytes : List ℕ) (triples : List Triple) : Type 0 where

@@ -16,12 +16,12 @@ use Rattle.bm_top.specs.declared.decide.Undecided.{Undecided}
 use Rattle.bm_top.specs.declared.decide.Undecided.TheVariants as undecided
 use Rattle.bm_top.specs.declared.ending.Ending.{Ending}
 use Rattle.bm_top.specs.declared.ending.Ending.TheVariants as ends
-use Rattle.bm_top.specs.Decide.{IsDecided}
+use Rattle.bm_top.specs.steps.Decide.{IsDecided}
 use Rattle.bm_top.specs.Lines.{read_fault_line, limit_line}
 use Rattle.bm_top.specs.Run.{OpensInTurn}
 use Rattle.bm_top.specs.Verdict.{Verdict, answered, refused, files_after}
-use Rattle.bm_top.specs.VerdictOf.{reading, reading_file}
-use Rattle.bm_top.specs.Ending.{EndsSo, ReadsOnly, Leaves, HasReason, Reason, after_deciding, after_printing, after_reading}
+use Rattle.bm_top.specs.steps.VerdictOf.{reading, reading_file}
+use Rattle.bm_top.specs.steps.Ending.{EndsSo, ReadsOnly, Leaves, HasReason, Reason, after_deciding, after_printing, after_reading}
 
 -- the text has been printed, or some front of it
 pub EndsSo-printing : (verdict : Verdict) (text : List ℕ) (printed : Result (Unit {0}) Failed) (m n : Meanings) → verdict ≡ answered text → AppendsAll with_printed text printed m n → EndsSo verdict (after_printing printed) m n

@@ -1,12 +1,7 @@
 pub mod Command
-pub mod Decide
-pub mod Ending
 pub mod Lines
-pub mod Reading
-pub mod Requested
-pub mod RowOrder
 pub mod Run
 pub mod Standard
 pub mod Tsv
 pub mod Verdict
-pub mod VerdictOf
+pub mod steps

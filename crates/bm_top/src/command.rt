@@ -2,7 +2,7 @@ ghost use Rattle.std.specs.Prelude.{◌≡◌, map};
 ghost use Rattle.std.specs.Option.{option_map};
 ghost use Rattle.std.specs.String.{string_bytes};
 ghost use Rattle.bm_top.specs.Command.{request_of};
-ghost use Rattle.bm_top.specs.Requested.{requested};
+ghost use Rattle.bm_top.specs.steps.Requested.{requested};
 
 const ASK: &str = "ask";
 

@@ -2,7 +2,7 @@ ghost use Rattle.std.specs.Prelude.{◌≡◌};
 ghost use Rattle.std.specs.List.{flat_map};
 ghost use Rattle.bm_world.specs.Meanings.{with_complained};
 ghost use Rattle.bm_world.specs.World.{Step, RisesOnErr, AppendsAll};
-ghost use Rattle.bm_top.specs.Ending.{line_of};
+ghost use Rattle.bm_top.specs.steps.Ending.{line_of};
 ghost use Rattle.bm_top.specs.Lines.{fault_line, refusal_line, refused_at};
 
 use crate::ending::Ending;

@@ -1,5 +1,5 @@
-ghost use Rattle.bm_top.specs.VerdictOf.{decided};
-ghost use Rattle.bm_top.specs.Decide.{IsDecided, from_data, from_query};
+ghost use Rattle.bm_top.specs.steps.VerdictOf.{decided};
+ghost use Rattle.bm_top.specs.steps.Decide.{IsDecided, from_data, from_query};
 
 use crate::answers::answers;
 use crate::data::read_data;
@@ -20,7 +20,7 @@ pub(crate) enum Undecided {
 
 impl From<FeedFault> for Undecided {
     ghost use Rattle.std.specs.Prelude.{◌≡◌};
-    ghost use Rattle.bm_top.specs.Decide.{from_data};
+    ghost use Rattle.bm_top.specs.steps.Decide.{from_data};
 
     ghost from_gives = { λ fault undecided. undecided ≡ from_data fault };
 
@@ -34,7 +34,7 @@ impl From<FeedFault> for Undecided {
 
 impl From<QueryFault> for Undecided {
     ghost use Rattle.std.specs.Prelude.{◌≡◌};
-    ghost use Rattle.bm_top.specs.Decide.{from_query};
+    ghost use Rattle.bm_top.specs.steps.Decide.{from_query};
 
     ghost from_gives = { λ fault undecided. undecided ≡ from_query fault };
 
@@ -59,11 +59,13 @@ impl From<AllocError> for Undecided {
     }
 }
 
-/// The text that answers a query over data, or why there is none: the first bad line, and then the query.
+/// The text that answers a query over data, or why there is none: the first bad line, and then the query. The data is
+/// let go once its triples are read.
 pub(crate) fn decide(alloc: Global, data: Vec<u8>, query: &[u8]) -> Result<Vec<u8>, Undecided>
     ensures { IsDecided (decided «data».items query.now) result }
 {
-    let triples = read_data(alloc, data)?;
+    let triples = read_data(alloc, &data)?;
+    drop(data);
     let query = parse_query(alloc, query)?;
     let graph = graph(alloc, triples)?;
     let answers = answers(alloc, &query, &graph)?;

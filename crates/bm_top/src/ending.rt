@@ -17,7 +17,7 @@ pub(crate) enum Ending<'a> {
 
 impl Ending<'_> {
     ghost use Rattle.std.specs.Prelude.{◌≡◌};
-    ghost use Rattle.bm_top.specs.Ending.{status_of};
+    ghost use Rattle.bm_top.specs.steps.Ending.{status_of};
 
     /// The status that the program ends with.
     pub(crate) fn status(&self) -> u8

@@ -5,10 +5,10 @@ ghost use Rattle.std.specs.Prelude.{◌≡◌, [], ◌∷◌, None};
 ghost use Rattle.std.specs.Option.{option_map};
 ghost use Rattle.bm_world.specs.World.{Step};
 ghost use Rattle.bm_top.specs.Command.{ask, names_read};
-ghost use Rattle.bm_top.specs.Ending.{EndsSo, HasReason, after_deciding, after_printing, after_reading, status_of};
-ghost use Rattle.bm_top.specs.Requested.{requested};
+ghost use Rattle.bm_top.specs.steps.Ending.{EndsSo, HasReason, after_deciding, after_printing, after_reading, status_of};
+ghost use Rattle.bm_top.specs.steps.Requested.{requested};
 ghost use Rattle.bm_top.specs.Run.{OpensInTurn};
-ghost use Rattle.bm_top.specs.VerdictOf.{decided, query_verdict, request_verdict, verdict_at};
+ghost use Rattle.bm_top.specs.steps.VerdictOf.{decided, query_verdict, request_verdict, verdict_at};
 
 use crate::command::Command;
 use crate::decide::{Undecided, decide};

@@ -1,5 +1,5 @@
 use Rattle.std.proofs.Common.{sym, ◌∙◌}
-use Rattle.bm_top.specs.VerdictOf.{verdict_of}
+use Rattle.bm_top.specs.steps.VerdictOf.{verdict_of}
 use Rattle.bm_top.proofs.StandardLaws.{verdict_of-is, is-verdict_of}
 use Rattle.bm_top.proofs.laws.each_command_has_one_verdict.Goals as goal
 

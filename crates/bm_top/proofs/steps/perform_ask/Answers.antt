@@ -1,7 +1,7 @@
 use Rattle.std.proofs.Common.{◌≤◌, [], ◌∷◌, Ok, Err, length, ap, refl, arith}
 use Rattle.bm_world.specs.Meanings.{Meanings}
 use Rattle.bm_world.proofs.Steps.{Step-then, Step-weaken}
-use Rattle.bm_top.specs.VerdictOf.{query_verdict, request_verdict}
+use Rattle.bm_top.specs.steps.VerdictOf.{query_verdict, request_verdict}
 use Rattle.bm_top.proofs.StepsDone.{EndsSo-reading, EndsSo-unread, HasReason-unread, HasReason-later, OpensInTurn-more, OpensInTurn-unread}
 use Rattle.bm_top.proofs.steps.perform_ask.Goals as goal
 

@@ -1,6 +1,6 @@
 use Rattle.std.proofs.Common.{[], ap}
 use Rattle.bm_world.proofs.Steps.{Step-weaken}
-use Rattle.bm_top.specs.VerdictOf.{decided}
+use Rattle.bm_top.specs.steps.VerdictOf.{decided}
 use Rattle.bm_top.proofs.StepsDone.{EndsSo-printing, OpensInTurn-printing}
 use Rattle.bm_top.proofs.steps.print_decided.Goals as goal
 
