@@ -7,10 +7,10 @@ use Rattle.std.proofs.lemmas.List.{length-map, map-append}
 use Rattle.std.specs.Char.{to_ascii_lowercase}
 use Rattle.std.specs.Cmp.Derive.{both_true}
 use Rattle.std.specs.List.{list_all}
-use Rattle.bm_term.specs.Classes.{is_letter, is_alphanumeric, is_lower_letter, is_lower_alphanumeric, is_digit}
-use Rattle.bm_term.specs.Text.{IsRun}
-use Rattle.bm_term.specs.Repetition.{Star}
-use Rattle.bm_term.specs.Names.{IsSubtag, IsLanguageTag}
+use Rattle.rdf_text.specs.Classes.{is_letter, is_alphanumeric, is_lower_letter, is_lower_alphanumeric, is_digit}
+use Rattle.rdf_text.specs.Text.{IsRun}
+use Rattle.rdf_text.specs.Repetition.{Star}
+use Rattle.rdf_text.specs.Names.{IsSubtag, IsLanguageTag}
 use Rattle.bm_term.specs.Canonical.{IsLowerTag}
 
 -- a letter becomes a letter of lower case, and a digit stays

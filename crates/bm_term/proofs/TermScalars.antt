@@ -6,12 +6,13 @@ use Rattle.std.specs.Cmp.Derive.{both_true}
 use Rattle.std.specs.List.{list_all}
 use Rattle.std.specs.Str.{all_scalars}
 use lib.Utf8.{scalar, low_scalar}
-use Rattle.bm_term.specs.Classes.{is_scalar, is_irichar, is_pn_chars_base, is_pn_chars_more, is_nt_pn_chars_u, is_nt_pn_chars, is_nt_label_first, is_digit, is_lower_letter, is_lower_alphanumeric, is_excluded_mark}
-use Rattle.bm_term.specs.Repetition.{Star}
-use Rattle.bm_term.specs.Names.{is_dotted, IsDottedName, IsSubtag, IsLanguageTag}
-use Rattle.bm_term.specs.Canonical.{RdfTerm, iri, blank, plain, tagged, typed, IsTerm, canonical_chars, escaped}
-use Rattle.bm_term.proofs.Scalars.{is_scalar-scalar, all_scalars-append}
-use Rattle.bm_term.proofs.Spellings.{all_scalars-escaped}
+use Rattle.rdf_text.specs.Classes.{is_scalar, is_irichar, is_pn_chars_base, is_pn_chars_more, is_nt_pn_chars_u, is_nt_pn_chars, is_nt_label_first, is_digit, is_lower_letter, is_lower_alphanumeric, is_excluded_mark}
+use Rattle.rdf_text.specs.Repetition.{Star}
+use Rattle.rdf_text.specs.Names.{is_dotted, IsDottedName, IsSubtag, IsLanguageTag}
+use Rattle.bm_term.specs.Canonical.{RdfTerm, iri, blank, plain, tagged, typed, IsTerm, canonical_chars}
+use Rattle.rdf_text.specs.Spelling.{escaped}
+use Rattle.rdf_text.proofs.Scalars.{is_scalar-scalar, all_scalars-append}
+use Rattle.rdf_text.proofs.Spellings.{all_scalars-escaped}
 
 irichar_is_scalar : (c : ℕ) → is_irichar c ≡ true → scalar c ≡ true
 unfolding is_irichar

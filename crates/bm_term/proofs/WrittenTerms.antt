@@ -3,8 +3,9 @@ use Rattle.std.proofs.Common.{◌≡◌, ℕ, Result, Ok, Err, if◌then◌else�
 use Rattle.std.specs.Prelude.{encode_utf8, is_ok, OnOk}
 use Rattle.std.specs.Str.{encode_utf8_all}
 use Rattle.std.proofs.lemmas.Str.{encodes-append}
-use Rattle.bm_term.specs.Canonical.{iri, plain, tagged, typed, escaped, canonical_text}
-use Rattle.bm_term.specs.Marks.{quotation_mark, at_sign, circumflex, less_than, greater_than}
+use Rattle.bm_term.specs.Canonical.{iri, plain, tagged, typed, canonical_text}
+use Rattle.rdf_text.specs.Spelling.{escaped}
+use Rattle.rdf_text.specs.Marks.{quotation_mark, at_sign, circumflex, less_than, greater_than}
 
 -- text between marks, written part by part
 pub marked_bytes : (before first second third body : List ℕ) (opening closing : ℕ) → first ≡ before ++ encode_utf8 opening → second ≡ first ++ encode_utf8_all body → third ≡ second ++ encode_utf8 closing → third ≡ before ++ encode_utf8_all (opening ∷ (body ++ closing ∷ []))

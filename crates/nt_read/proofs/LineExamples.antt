@@ -2,10 +2,10 @@
 use Rattle.std.proofs.Common.{◌≡◌, refl, Some}
 use Rattle.std.specs.Prelude.{codes}
 use Rattle.bm_term.specs.Canonical.{iri, blank, tagged}
-use Rattle.bm_term.specs.Classes.{is_scalar, is_irichar, is_digit, is_letter, is_alphanumeric, is_nt_label_first, is_nt_pn_chars, is_nt_pn_chars_u, is_pn_chars_base, is_pn_chars_more}
-use Rattle.bm_term.specs.Names.{dotted_end, after_dotted_name, after_subtag, after_language_tag}
-use Rattle.bm_term.specs.Repetition.{after_pieces}
-use Rattle.bm_term.specs.Text.{after_run}
+use Rattle.rdf_text.specs.Classes.{is_scalar, is_irichar, is_digit, is_letter, is_alphanumeric, is_nt_label_first, is_nt_pn_chars, is_nt_pn_chars_u, is_pn_chars_base, is_pn_chars_more}
+use Rattle.rdf_text.specs.scanning.Names.{dotted_end, after_dotted_name, after_subtag, after_language_tag}
+use Rattle.rdf_text.specs.scanning.Repetition.{after_pieces}
+use Rattle.rdf_text.specs.scanning.Text.{after_run}
 use Rattle.rdf_escapes.specs.Pieces.{pieces}
 use Rattle.rdf_escapes.specs.Reading.{iri_piece, string_piece, read_iri_body, read_iri_ref, read_string_body, read_string}
 use Rattle.rdf_escapes.specs.Strings.{is_string_char}

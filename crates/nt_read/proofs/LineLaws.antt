@@ -7,8 +7,8 @@ use Rattle.bm_term.specs.declared.triple.Triple.{Triple}
 use Rattle.bm_term.specs.declared.term_parts.TermKind.TheVariants.{Iri}
 use Rattle.bm_term.specs.Canonical.{RdfTerm, iri, blank, plain, tagged, typed, IsTerm, canonical_text, IsTextOf}
 use Rattle.bm_term.specs.Triple.{IsNode, IsRdfTriple}
-use Rattle.bm_term.specs.Marks.{full_stop}
-use Rattle.bm_term.specs.Text.{after_char}
+use Rattle.rdf_text.specs.Marks.{full_stop}
+use Rattle.rdf_text.specs.scanning.Text.{after_char}
 use Rattle.nt_read.specs.Line.{IsSubject, IsPredicate, SpellsTerms, IsEnd, triple_of, Spells, SpellsNothing, IsBadLine}
 use Rattle.nt_read.specs.LineReading.{LineReading, bad, nothing, spelled, after_blanks, read_subject, read_predicate, read_object, is_end, read_statement, reading_of, read_chars, line_reading}
 use Rattle.nt_read.proofs.TermLaws.{subject_is_term, predicate_is_term, object_is_term}

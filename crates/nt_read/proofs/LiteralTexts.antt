@@ -6,12 +6,12 @@ use Rattle.std.specs.Str.{chars}
 use Rattle.std.proofs.lemmas.Slice.Eq.{bytes_eq-Decides}
 use Rattle.std.proofs.lemmas.Str.{encodes-IsAscii}
 use Rattle.bm_term.specs.Canonical.{iri, plain, typed, literal_of, IsTerm, canonical_text, xsd_string}
-use Rattle.bm_term.specs.Classes.{is_scalar, is_irichar}
-use Rattle.bm_term.specs.Marks.{circumflex}
-use Rattle.bm_term.specs.Text.{behind_first}
+use Rattle.rdf_text.specs.Classes.{is_scalar, is_irichar}
+use Rattle.rdf_text.specs.Marks.{circumflex}
+use Rattle.rdf_text.specs.scanning.Text.{after_first}
 use Rattle.bm_term.proofs.Inverse.{canonical_text-injective}
 use Rattle.bm_term.proofs.LiteralLaws.{literal_of-xsd_string, literal_of-other}
-use Rattle.bm_term.proofs.TextLemmas.{IsAscii-list_all}
+use Rattle.rdf_text.proofs.TextLemmas.{IsAscii-list_all}
 use Rattle.bm_term.proofs.WrittenTerms.{typed_bytes}
 use Rattle.nt_read.specs.declared.found.Quoted.{Quoted}
 use Rattle.nt_read.specs.declared.found.Quoted.TheVariants.{Raw, Escaped}
@@ -59,5 +59,5 @@ typed_of_other text lexical cs other is = is ∙ ap canonical_text (sym (literal
 -- the characters of an IRI are members of its class
 pub iri_of-members : (quoted : Quoted) → list_all is_irichar (iri_of quoted) ≡ true
 unfolding iri_of
-iri_of-members (Raw text) = iri_values-irichars (behind_first (chars text.now))
+iri_of-members (Raw text) = iri_values-irichars (after_first (chars text.now))
 iri_of-members (Escaped body) = iri_values-irichars (chars body.now)

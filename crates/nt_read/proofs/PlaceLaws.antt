@@ -5,11 +5,11 @@ use Rattle.std.specs.Option.{option_map, option_or}
 use Rattle.std.proofs.lemmas.Bool.{eqb-true}
 use Rattle.std.proofs.lemmas.Option.{option_and_then_some, some_pair_parts}
 use Rattle.std.proofs.lemmas.Slice.Eq.{bytes_eq-Decides}
-use Rattle.bm_term.specs.Marks.{quotation_mark, full_stop, at_sign, circumflex, low_line, colon, less_than, number_sign}
+use Rattle.rdf_text.specs.Marks.{quotation_mark, full_stop, at_sign, circumflex, low_line, colon, less_than, number_sign}
 use Rattle.bm_term.specs.Canonical.{RdfTerm, iri, blank, plain, tagged, typed, literal_of, xsd_string}
-use Rattle.bm_term.specs.Text.{after_char}
+use Rattle.rdf_text.specs.scanning.Text.{after_char}
 use Rattle.bm_term.proofs.LiteralLaws.{literal_of-xsd_string, literal_of-other}
-use Rattle.bm_term.proofs.TextLemmas.{after_run-split, after_run-append, after_run-stop, after_run-nil}
+use Rattle.rdf_text.proofs.TextLemmas.{after_run-split, after_run-append, after_run-stop, after_run-nil}
 use Rattle.rdf_escapes.specs.Iris.{IsIriRef}
 use Rattle.rdf_escapes.specs.Reading.{read_iri_ref, read_string}
 use Rattle.rdf_escapes.specs.Strings.{IsString}

@@ -3,14 +3,16 @@ use Rattle.std.proofs.Common.{◌≡◌, ℕ, Bool, true, is_none, inl, Option, 
 use Rattle.std.proofs.lemmas.Bool.{and_parts}
 use Rattle.std.proofs.lemmas.Bool.Decides.{nat_tests}
 use Rattle.std.specs.List.{list_all}
-use Rattle.bm_term.specs.Canonical.{iri, plain, blank, canonical_chars, escape_letter, escaped}
-use Rattle.bm_term.specs.Classes.{is_scalar, is_irichar, is_nt_label_first, is_nt_pn_chars}
-use Rattle.bm_term.specs.Marks.{less_than, greater_than, quotation_mark, low_line, colon}
-use Rattle.bm_term.specs.Names.{after_dotted_name}
-use Rattle.bm_term.specs.Repetition.{Star}
-use Rattle.bm_term.specs.Reading.{is_raw_char}
-use Rattle.bm_term.specs.Text.{behind_first, after_char, after_run, before, HasRest}
-use Rattle.bm_term.proofs.TextLemmas.{after_char-some, after_run-split, before-append}
+use Rattle.bm_term.specs.Canonical.{iri, plain, blank, canonical_chars}
+use Rattle.rdf_text.specs.Spelling.{escape_letter, escaped}
+use Rattle.rdf_text.specs.Classes.{is_scalar, is_irichar, is_nt_label_first, is_nt_pn_chars}
+use Rattle.rdf_text.specs.Marks.{less_than, greater_than, quotation_mark, low_line, colon}
+use Rattle.rdf_text.specs.scanning.Names.{after_dotted_name}
+use Rattle.rdf_text.specs.Repetition.{Star}
+use Rattle.rdf_text.specs.scanning.Bytes.{is_raw_char}
+use Rattle.rdf_text.specs.scanning.Text.{after_first, after_char, after_run, before}
+use Rattle.rdf_text.specs.Text.{HasRest}
+use Rattle.rdf_text.proofs.TextLemmas.{after_char-some, after_run-split, before-append}
 use Rattle.rdf_escapes.specs.Iris.{IsIriPiece}
 use Rattle.rdf_escapes.specs.Pieces.{values}
 use Rattle.rdf_escapes.specs.Reading.{iri_piece, string_piece, read_iri_ref, read_string}
@@ -62,29 +64,29 @@ raw_string : (run : List ℕ) → list_all is_raw_char run ≡ true → Star (Is
 raw_string run all = raw_pieces is_raw_char (IsStringPiece quotation_mark) (λ c member. inl (raw_char_is_string_char c member, refl)) run all
 
 -- so it stands for itself
-pub iri_run_values : (text rest : List ℕ) (begins : BeginsWithRun is_irichar less_than greater_than text rest) → values iri_piece (behind_first (before text rest)) ≡ begins.run
+pub iri_run_values : (text rest : List ℕ) (begins : BeginsWithRun is_irichar less_than greater_than text rest) → values iri_piece (after_first (before text rest)) ≡ begins.run
 iri_run_values text rest begins =
-    ap (λ xs. values iri_piece (behind_first xs)) begins.cut
+    ap (λ xs. values iri_piece (after_first xs)) begins.cut
     ∙ ap (λ (p : List ℕ × List ℕ). p.0) (passed_to_end iri_piece iri_piece-forward IsIriPiece iri_piece-over begins.run begins.run (greater_than ∷ []) (raw_iri begins.run begins.all) (iri_piece-closed []))
 
-pub string_run_values : (text rest : List ℕ) (begins : BeginsWithRun is_raw_char quotation_mark quotation_mark text rest) → values (string_piece quotation_mark) (behind_first (before text rest)) ≡ begins.run
+pub string_run_values : (text rest : List ℕ) (begins : BeginsWithRun is_raw_char quotation_mark quotation_mark text rest) → values (string_piece quotation_mark) (after_first (before text rest)) ≡ begins.run
 string_run_values text rest begins =
-    ap (λ xs. values (string_piece quotation_mark) (behind_first xs)) begins.cut
+    ap (λ xs. values (string_piece quotation_mark) (after_first xs)) begins.cut
     ∙ ap (λ (p : List ℕ × List ℕ). p.0) (passed_to_end (string_piece quotation_mark) (string_piece-forward quotation_mark) (IsStringPiece quotation_mark) (string_piece-over quotation_mark) begins.run begins.run (quotation_mark ∷ []) (raw_string begins.run begins.all) (string_piece-closed quotation_mark [] refl))
 
 -- and is read so
-pub iri_run_is_read : (text rest : List ℕ) → BeginsWithRun is_irichar less_than greater_than text rest → ◌≡◌ {A = Option (List ℕ × List ℕ)} (Some (values iri_piece (behind_first (before text rest)), rest)) (read_iri_ref text)
+pub iri_run_is_read : (text rest : List ℕ) → BeginsWithRun is_irichar less_than greater_than text rest → ◌≡◌ {A = Option (List ℕ × List ℕ)} (Some (values iri_piece (after_first (before text rest)), rest)) (read_iri_ref text)
 iri_run_is_read text rest begins =
     rw (iri_run_values text rest begins)
     (sym (ap read_iri_ref begins.split ∙ iri_ref-again (less_than ∷ (begins.run ++ greater_than ∷ [])) rest begins.run (begins.run, raw_iri begins.run begins.all, refl)))
 
-pub string_run_is_read : (text rest : List ℕ) → BeginsWithRun is_raw_char quotation_mark quotation_mark text rest → ◌≡◌ {A = Option (List ℕ × List ℕ)} (Some (values (string_piece quotation_mark) (behind_first (before text rest)), rest)) (read_string quotation_mark text)
+pub string_run_is_read : (text rest : List ℕ) → BeginsWithRun is_raw_char quotation_mark quotation_mark text rest → ◌≡◌ {A = Option (List ℕ × List ℕ)} (Some (values (string_piece quotation_mark) (after_first (before text rest)), rest)) (read_string quotation_mark text)
 string_run_is_read text rest begins =
     rw (string_run_values text rest begins)
     (sym (ap (read_string quotation_mark) begins.split ∙ string-again quotation_mark (quotation_mark ∷ (begins.run ++ quotation_mark ∷ [])) rest begins.run refl (begins.run, raw_string begins.run begins.all, refl)))
 
 -- its text is the canonical one
-pub iri_run_is_canonical : (text rest : List ℕ) → BeginsWithRun is_irichar less_than greater_than text rest → before text rest ≡ canonical_chars (iri (values iri_piece (behind_first (before text rest))))
+pub iri_run_is_canonical : (text rest : List ℕ) → BeginsWithRun is_irichar less_than greater_than text rest → before text rest ≡ canonical_chars (iri (values iri_piece (after_first (before text rest))))
 iri_run_is_canonical text rest begins =
     begins.cut ∙ ap (λ cs. less_than ∷ (cs ++ greater_than ∷ [])) (sym (iri_run_values text rest begins))
 
@@ -100,7 +102,7 @@ escaped-raw (c ∷ cs) all =
     let (first, others) = and_parts (is_raw_char c) (list_all is_raw_char cs) all in
     rw (raw_is_unescaped c first, escaped-raw cs others) refl
 
-pub string_run_is_canonical : (text rest : List ℕ) → BeginsWithRun is_raw_char quotation_mark quotation_mark text rest → before text rest ≡ canonical_chars (plain (values (string_piece quotation_mark) (behind_first (before text rest))))
+pub string_run_is_canonical : (text rest : List ℕ) → BeginsWithRun is_raw_char quotation_mark quotation_mark text rest → before text rest ≡ canonical_chars (plain (values (string_piece quotation_mark) (after_first (before text rest))))
 string_run_is_canonical text rest begins =
     begins.cut
     ∙ ap (λ cs. quotation_mark ∷ (cs ++ quotation_mark ∷ [])) (sym (escaped-raw begins.run begins.all))
@@ -126,8 +128,8 @@ begins_with_label text mark label rest name first second split named =
       read = rw (← first, ← second, ← named, whole) refl;
     }
 
-pub label_is_read : (text rest : List ℕ) → BeginsWithLabel text rest → ◌≡◌ {A = Option (List ℕ × List ℕ)} (Some (behind_first (behind_first (before text rest)), rest)) (read_label text)
+pub label_is_read : (text rest : List ℕ) → BeginsWithLabel text rest → ◌≡◌ {A = Option (List ℕ × List ℕ)} (Some (after_first (after_first (before text rest)), rest)) (read_label text)
 label_is_read text rest begins = rw begins.cut begins.read
 
-pub label_is_canonical : (text rest : List ℕ) → BeginsWithLabel text rest → before text rest ≡ canonical_chars (blank (behind_first (behind_first (before text rest))))
+pub label_is_canonical : (text rest : List ℕ) → BeginsWithLabel text rest → before text rest ≡ canonical_chars (blank (after_first (after_first (before text rest))))
 label_is_canonical text rest begins = rw begins.cut refl

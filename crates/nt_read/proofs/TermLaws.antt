@@ -2,8 +2,8 @@
 use Rattle.std.proofs.Common.{◌≡◌, ℕ, true, inl, inr, List}
 use Rattle.std.specs.List.{list_all}
 use Rattle.std.specs.Str.{all_scalars}
-use Rattle.bm_term.specs.Classes.{is_scalar, is_irichar}
-use Rattle.bm_term.specs.Marks.{quotation_mark}
+use Rattle.rdf_text.specs.Classes.{is_scalar, is_irichar}
+use Rattle.rdf_text.specs.Marks.{quotation_mark}
 use Rattle.bm_term.specs.Canonical.{RdfTerm, iri, blank, plain, tagged, typed, IsTerm, IsLowerTag}
 use Rattle.bm_term.proofs.LowerTags.{IsLowerTag-lowercase}
 use Rattle.rdf_escapes.specs.Iris.{IsIriPiece, IsIriRef}

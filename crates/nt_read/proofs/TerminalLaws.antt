@@ -2,8 +2,9 @@
 use Rattle.std.proofs.Common.{◌≡◌, ℕ, ◌≤◌, true, false, Option, Some, None, List, [], ◌∷◌, ◌++◌, length, refl, ap, subst, ◌∙◌, sym, arith, append_assoc, append-nil, length-append}
 use Rattle.std.proofs.lemmas.List.{nil_from_length}
 use Rattle.std.proofs.lemmas.Option.{some_pair_parts}
-use Rattle.bm_term.specs.Text.{after_run, IsLongest}
-use Rattle.bm_term.proofs.TextLemmas.{after_run-split, after_run-append, after_run-stop}
+use Rattle.rdf_text.specs.scanning.Text.{after_run}
+use Rattle.rdf_text.specs.Text.{IsLongest}
+use Rattle.rdf_text.proofs.TextLemmas.{after_run-split, after_run-append, after_run-stop}
 use Rattle.nt_read.specs.Terminals.{is_blank, HasValue, Terminal}
 
 -- of two cuts of one text the later one goes on from the other

@@ -4,20 +4,19 @@ use Rattle.std.proofs.lemmas.Bool.{eqb-true}
 use Rattle.std.proofs.lemmas.Option.{option_and_then_some, some_pair_parts}
 use Rattle.std.specs.Char.{to_ascii_lowercase}
 use Rattle.std.specs.Option.{option_map}
-use Rattle.bm_term.specs.Classes.{is_letter, is_alphanumeric, is_nt_label_first, is_nt_pn_chars}
+use Rattle.rdf_text.specs.Classes.{is_letter, is_alphanumeric, is_nt_label_first, is_nt_pn_chars}
 use Rattle.bm_term.specs.Canonical.{IsLabel}
-use Rattle.bm_term.specs.Marks.{quotation_mark, colon, less_than, at_sign, full_stop, circumflex, low_line}
-use Rattle.bm_term.specs.Names.{after_dotted_name, after_language_tag}
-use Rattle.bm_term.specs.Text.{after_char, before}
-use Rattle.bm_term.proofs.DottedNames.{after_dotted_name-sound, after_dotted_name-reaches}
-use Rattle.bm_term.proofs.LanguageTags.{no_letter, no_alphanumeric, after_language_tag-sound, after_language_tag-reaches}
-use Rattle.bm_term.proofs.TextLemmas.{after_char-some, before-append}
+use Rattle.rdf_text.specs.Marks.{quotation_mark, colon, less_than, at_sign, full_stop, circumflex, low_line}
+use Rattle.rdf_text.specs.scanning.Names.{after_dotted_name, after_language_tag}
+use Rattle.rdf_text.specs.scanning.Text.{after_char, before, ◌>>=◌}
+use Rattle.rdf_text.proofs.DottedNames.{after_dotted_name-sound, after_dotted_name-reaches}
+use Rattle.rdf_text.proofs.LanguageTags.{no_letter, no_alphanumeric, after_language_tag-sound, after_language_tag-reaches}
+use Rattle.rdf_text.proofs.TextLemmas.{after_char-some, before-append}
 use Rattle.rdf_escapes.specs.Iris.{IsIriRef}
 use Rattle.rdf_escapes.specs.Reading.{read_iri_ref, read_string}
 use Rattle.rdf_escapes.specs.Strings.{IsString}
 use Rattle.rdf_escapes.proofs.SpellingLaws.{iri_ref-sound, iri_ref-again, string-sound, string-again}
 use Rattle.nt_read.specs.Terminals.{IsLangtag, IsBlankNodeLabel, IsMark, is_blank}
-use Rattle.bm_term.specs.Reading.{◌>>=◌}
 use Rattle.nt_read.specs.TerminalReading.{read_langtag, read_label}
 use Rattle.nt_read.proofs.TerminalLaws.{Reads, reads_exactly}
 

@@ -2,9 +2,9 @@
 use Rattle.std.specs.Prelude.{◌≡◌, ℕ, List, map, length}
 use Rattle.std.specs.Char.{to_ascii_lowercase}
 use Rattle.std.specs.Str.{chars, IsUtf8}
-use Rattle.bm_term.specs.Marks.{quotation_mark}
+use Rattle.rdf_text.specs.Marks.{quotation_mark}
 use Rattle.bm_term.specs.Canonical.{RdfTerm, iri, blank, plain, tagged, literal_of, IsTerm, canonical_chars}
-use Rattle.bm_term.specs.Text.{behind_first}
+use Rattle.rdf_text.specs.scanning.Text.{after_first}
 use Rattle.bm_term.specs.declared.triple.Triple.{Triple}
 use Rattle.nt_read.specs.declared.found.Quoted.{Quoted}
 use Rattle.nt_read.specs.declared.found.Quoted.TheVariants.{Raw, Escaped}
@@ -19,16 +19,16 @@ use Rattle.nt_read.specs.Line.{triple_of}
 
 -- the characters of an IRI, and those of a lexical form
 unfoldable pub iri_of : Quoted → List ℕ
-iri_of (Raw text) = values iri_piece (behind_first (chars text.now))
+iri_of (Raw text) = values iri_piece (after_first (chars text.now))
 iri_of (Escaped body) = values iri_piece (chars body.now)
 
 unfoldable pub lexical_of : Quoted → List ℕ
-lexical_of (Raw text) = values (string_piece quotation_mark) (behind_first (chars text.now))
+lexical_of (Raw text) = values (string_piece quotation_mark) (after_first (chars text.now))
 lexical_of (Escaped body) = values (string_piece quotation_mark) (chars body.now)
 
 -- the label of a blank node, and a language tag, from their texts
 unfoldable pub label_of : List ℕ → List ℕ
-label_of text = behind_first (behind_first (chars text))
+label_of text = after_first (after_first (chars text))
 
 unfoldable pub tag_of : List ℕ → List ℕ
 tag_of text = map to_ascii_lowercase (chars text)

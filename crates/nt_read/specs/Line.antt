@@ -3,7 +3,7 @@
 use Rattle.std.specs.Prelude.{◌≡◌, ◌≢◌, ℕ, ◌⊎◌, List, [], ◌∷◌, ◌++◌}
 use Rattle.std.specs.Str.{chars, IsUtf8}
 use Rattle.bm_term.specs.declared.triple.Triple.{Triple}
-use Rattle.bm_term.specs.Marks.{quotation_mark, full_stop, circumflex, number_sign}
+use Rattle.rdf_text.specs.Marks.{quotation_mark, full_stop, circumflex, number_sign}
 use Rattle.bm_term.specs.Canonical.{RdfTerm, iri, blank, plain, tagged, typed, xsd_string, canonical_text}
 use Rattle.rdf_escapes.specs.Iris.{IsIriRef}
 use Rattle.rdf_escapes.specs.Strings.{IsString}

@@ -3,14 +3,13 @@ use Rattle.std.specs.Prelude.{◌≡◌, ℕ, Bool, true, ◌==◌, if◌then◌
 use Rattle.std.specs.Option.{option_map, option_or}
 use Rattle.std.specs.Str.{chars, is_utf8}
 use Rattle.bm_term.specs.declared.triple.Triple.{Triple}
-use Rattle.bm_term.specs.Marks.{quotation_mark, full_stop, at_sign, circumflex, number_sign}
+use Rattle.rdf_text.specs.Marks.{quotation_mark, full_stop, at_sign, circumflex, number_sign}
 use Rattle.bm_term.specs.Canonical.{RdfTerm, iri, blank, plain, tagged, literal_of}
-use Rattle.bm_term.specs.Text.{after_char, after_run}
+use Rattle.rdf_text.specs.scanning.Text.{after_char, after_run, ◌>>=◌}
 use Rattle.nt_read.specs.declared.line.LineFault.{LineFault}
 use Rattle.nt_read.specs.declared.line.LineFault.TheVariants.{Bad, Memory}
 use Rattle.nt_read.specs.Terminals.{is_blank}
 use Rattle.nt_read.specs.Line.{triple_of}
-use Rattle.bm_term.specs.Reading.{◌>>=◌}
 use Rattle.rdf_escapes.specs.Reading.{read_iri_ref, read_string}
 use Rattle.nt_read.specs.TerminalReading.{read_langtag, read_label}
 

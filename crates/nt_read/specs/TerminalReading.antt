@@ -2,11 +2,10 @@
 -- rdf_escapes. The laws that tie this to the grammar are in proofs/.
 use Rattle.std.specs.Prelude.{Some, map}
 use Rattle.std.specs.Char.{to_ascii_lowercase}
-use Rattle.bm_term.specs.Classes.{is_letter, is_alphanumeric, is_nt_label_first, is_nt_pn_chars}
-use Rattle.bm_term.specs.Marks.{colon, at_sign, low_line}
-use Rattle.bm_term.specs.Names.{after_dotted_name, after_language_tag}
-use Rattle.bm_term.specs.Reading.{◌>>=◌}
-use Rattle.bm_term.specs.Text.{after_char, before}
+use Rattle.rdf_text.specs.Classes.{is_letter, is_alphanumeric, is_nt_label_first, is_nt_pn_chars}
+use Rattle.rdf_text.specs.Marks.{colon, at_sign, low_line}
+use Rattle.rdf_text.specs.scanning.Names.{after_dotted_name, after_language_tag}
+use Rattle.rdf_text.specs.scanning.Text.{◌>>=◌, after_char, before}
 use Rattle.rdf_escapes.specs.Reading.{Read}
 
 -- LANGTAG

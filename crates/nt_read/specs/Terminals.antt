@@ -3,11 +3,11 @@
 use Rattle.std.specs.Prelude.{◌≡◌, ℕ, Bool, ◌||◌, ◌==◌, IsTrue, List, ◌∷◌, ◌++◌, map}
 use Rattle.std.specs.Char.{to_ascii_lowercase}
 use Rattle.std.specs.List.{list_all}
-use Rattle.bm_term.specs.Marks.{tab, space, colon, at_sign, low_line}
-use Rattle.bm_term.specs.Classes.{is_letter, is_alphanumeric}
-use Rattle.bm_term.specs.Names.{IsLanguageTag}
+use Rattle.rdf_text.specs.Marks.{tab, space, colon, at_sign, low_line}
+use Rattle.rdf_text.specs.Classes.{is_letter, is_alphanumeric}
+use Rattle.rdf_text.specs.Names.{IsLanguageTag}
 use Rattle.bm_term.specs.Canonical.{IsLabel}
-use Rattle.bm_term.specs.Text.{IsLongest}
+use Rattle.rdf_text.specs.Text.{IsLongest}
 
 -- LANGTAG ::= '@' [a-zA-Z]+ ('-' [a-zA-Z0-9]+)*, with the tag in lower case
 abbrev pub IsLangtag : List ℕ → List ℕ → Type 0

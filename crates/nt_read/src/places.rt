@@ -8,7 +8,7 @@ ghost use Rattle.nt_read.specs.LineReading.{after_blanks, read_iri, read_blank, 
 
 use crate::found::{FoundTerm, LiteralTail, Quoted};
 use crate::terminals::{blank_node_label, iri_ref, langtag, string_literal_quote};
-use bm_term::{CharClass, after_char, after_run, split_char};
+use rdf_text::{CharClass, after_char, after_run, split_char};
 
 // White space: the space and TAB.
 #[derive(Clone, Copy)]

@@ -7,7 +7,7 @@ ghost use Rattle.nt_read.specs.LineReading.{read_statement};
 
 use crate::found::FoundTriple;
 use crate::places::{after_blanks, is_end, object, predicate, subject};
-use bm_term::after_char;
+use rdf_text::after_char;
 
 /// subject predicate object '.' comment?
 #[tactic(auto, unfolding(crate::specs::LineReading::read_statement))]

@@ -3,16 +3,13 @@ ghost use Rattle.std.specs.Prelude.{◌≡◌, IfSome};
 ghost use Rattle.std.specs.Option.{option_map};
 ghost use Rattle.std.specs.Str.{chars, IsUtf8};
 ghost use Rattle.bm_term.specs.Canonical.{blank};
-ghost use Rattle.bm_term.specs.Marks.{quotation_mark};
+ghost use Rattle.rdf_text.specs.Marks.{quotation_mark};
 ghost use Rattle.rdf_escapes.specs.Reading.{read_iri_body, read_iri_ref, read_string_body, read_string};
 ghost use Rattle.nt_read.specs.Found.{iri_of, lexical_of, label_of, tag_of, IsIriText, IsStringText, IsRawTextOf};
 ghost use Rattle.nt_read.specs.TerminalReading.{read_langtag, read_label};
 
 use crate::found::Quoted;
-use bm_term::{
-    Alphanumeric, Letter, NtLabelFirst, NtPnChars, after_char, after_dotted_name, after_irichars,
-    after_language_tag, after_raw_chars, before,
-};
+use rdf_text::{Alphanumeric, Letter, NtLabelFirst, NtPnChars, after_char, after_dotted_name, after_irichars, after_language_tag, after_raw_chars, before};
 use rdf_escapes::{after_iri_pieces, after_string_pieces};
 
 /// IRIREF ::= '<' (IRICHAR | UCHAR)* '>'
@@ -62,7 +59,7 @@ fn escaped_string(body: &str) -> Option<(Quoted<'_>, &str)>
 }
 
 /// LANGTAG ::= '@' [a-zA-Z]+ ('-' [a-zA-Z0-9]+)*, without its '@'
-#[tactic(auto, using(bm_term::proofs::LanguageTags::hyphens), unfolding(crate::specs::TerminalReading::read_langtag, crate::specs::Found::tag_of))]
+#[tactic(auto, using(rdf_text::proofs::LanguageTags::hyphens), unfolding(crate::specs::TerminalReading::read_langtag, crate::specs::Found::tag_of))]
 pub fn langtag(text: &str) -> Option<(&str, &str)>
     ensures chars { option_map (λ p. (tag_of p.0.now, chars p.1.now)) result ≡ read_langtag (chars text.now) }
     ensures is { IfSome result (λ p. IsUtf8 p.0.now × IsUtf8 p.1.now) }

@@ -4,7 +4,8 @@ ghost use Rattle.bm_term.specs.Canonical.{iri, plain, tagged, literal_of, IsTerm
 ghost use Rattle.nt_read.specs.Found.{iri_of, lexical_of, tag_of, raw_length, IsIriText, IsStringText, IsTailText, IsFoundText, AreFoundTexts, AreTerms, literal_with, term_found, triple_found};
 
 use crate::found::{FoundTerm, FoundTriple, LiteralTail, Quoted};
-use bm_term::{Term, Triple, push_lower};
+use bm_term::{Term, Triple};
+use rdf_text::push_lower;
 use rdf_escapes::{push_iri_pieces, push_string_pieces};
 use std::alloc::{AllocError, Global};
 

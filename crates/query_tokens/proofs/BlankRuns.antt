@@ -2,10 +2,10 @@
 use Rattle.std.proofs.Common.{◌≡◌, ℕ, ◌≤◌, true, false, ◌==◌, if◌then◌else◌, inl, inr, Some, None, List, [], ◌∷◌, ◌++◌, length, refl, ap, ◌∙◌, arith, append_assoc, length-append}
 use Rattle.std.proofs.lemmas.Bool.{eqb-true}
 use Rattle.std.proofs.lemmas.Option.{same_Some}
-use Rattle.bm_term.specs.Text.{after_run}
-use Rattle.bm_term.specs.Repetition.{Star}
-use Rattle.bm_term.proofs.RepetitionLemmas.{GoesForward, splits}
-use Rattle.bm_term.proofs.TextLemmas.{after_run-split, after_run-append, length-after_run}
+use Rattle.rdf_text.specs.scanning.Text.{after_run}
+use Rattle.rdf_text.specs.Repetition.{Star}
+use Rattle.rdf_text.proofs.RepetitionLemmas.{GoesForward, splits}
+use Rattle.rdf_text.proofs.TextLemmas.{after_run-split, after_run-append, length-after_run}
 use Rattle.query_tokens.specs.Blanks.{is_white_space, is_comment_char, IsBlank, AreBlanks, after_blank, after_blanks}
 use Rattle.query_tokens.proofs.Walks.{Passed, IsSound, HaveLength, passes, forward, after_pieces-more, after_pieces-none}
 

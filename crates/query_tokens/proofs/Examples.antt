@@ -1,10 +1,10 @@
 -- Worked examples of the definitions.
 use Rattle.std.proofs.Common.{◌≡◌, false, refl, inl, inr, Some, None, [], ◌∷◌, arith}
 use Rattle.std.specs.Prelude.{codes}
-use Rattle.bm_term.specs.Classes.{is_scalar, is_irichar, is_digit, is_pn_chars_base, is_pn_chars_more, is_sparql_pn_chars_u, is_sparql_pn_chars, is_sparql_label_first}
-use Rattle.bm_term.specs.Escapes.{echar_value}
-use Rattle.bm_term.specs.Text.{after_run}
-use Rattle.bm_term.specs.Repetition.{after_pieces}
+use Rattle.rdf_text.specs.Classes.{is_scalar, is_irichar, is_digit, is_pn_chars_base, is_pn_chars_more, is_sparql_pn_chars_u, is_sparql_pn_chars, is_sparql_label_first}
+use Rattle.rdf_text.specs.Spelling.{echar_value}
+use Rattle.rdf_text.specs.scanning.Text.{after_run}
+use Rattle.rdf_text.specs.scanning.Repetition.{after_pieces}
 use Rattle.query_tokens.specs.declared.token.TokenKind.TheVariants.{Integer, Decimal, Word, Quoted, Sign, Quotes}
 use Rattle.rdf_escapes.specs.Pieces.{pieces}
 use Rattle.rdf_escapes.specs.Strings.{is_string_char}

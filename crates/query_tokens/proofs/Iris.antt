@@ -1,6 +1,6 @@
 -- IRIs between angle brackets: what is read is one, and each is read.
 use Rattle.std.proofs.Common.{◌≡◌, ℕ, Some, List, [], ◌∷◌, ◌++◌, refl, ap, ◌∙◌, sym, append_assoc}
-use Rattle.bm_term.proofs.TextLemmas.{after_char-some}
+use Rattle.rdf_text.proofs.TextLemmas.{after_char-some}
 use Rattle.rdf_escapes.specs.Iris.{IsIriPiece, IsIriRef}
 use Rattle.rdf_escapes.specs.Pieces.{values, after_values}
 use Rattle.rdf_escapes.specs.Reading.{iri_piece}

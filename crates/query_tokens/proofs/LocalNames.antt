@@ -6,13 +6,14 @@ use Rattle.std.specs.Cmp.Derive.{both_true}
 use Rattle.std.proofs.lemmas.Bool.{eqb-true, and_parts}
 use Rattle.std.proofs.lemmas.List.Folds.{list_all-append}
 use Rattle.std.proofs.lemmas.Option.{cond_some, option_and_then_some, same_Some}
-use Rattle.bm_term.specs.Classes.{is_hex, is_digit, is_pn_chars_base, is_sparql_pn_chars_u, is_pn_chars_more, is_sparql_pn_chars}
-use Rattle.bm_term.specs.Names.{is_dotted}
-use Rattle.bm_term.specs.Text.{after_run}
-use Rattle.bm_term.specs.Repetition.{Star, after_pieces}
-use Rattle.bm_term.proofs.RepetitionLemmas.{GoesForward, splits}
-use Rattle.bm_term.proofs.Longest.{Sound, Reaches}
-use Rattle.bm_term.proofs.TextLemmas.{after_run-split, after_run-append, after_run-stop}
+use Rattle.rdf_text.specs.Classes.{is_hex, is_digit, is_pn_chars_base, is_sparql_pn_chars_u, is_pn_chars_more, is_sparql_pn_chars}
+use Rattle.rdf_text.specs.Names.{is_dotted}
+use Rattle.rdf_text.specs.scanning.Text.{after_run}
+use Rattle.rdf_text.specs.Repetition.{Star}
+use Rattle.rdf_text.specs.scanning.Repetition.{after_pieces}
+use Rattle.rdf_text.proofs.RepetitionLemmas.{GoesForward, splits}
+use Rattle.rdf_text.proofs.Longest.{Sound, Reaches}
+use Rattle.rdf_text.proofs.TextLemmas.{after_run-split, after_run-append, after_run-stop}
 use Rattle.query_tokens.specs.PrefixedNames.{is_local_escape, IsLocalPiece, is_local_first, is_local_inner, IsLocalRest, IsLocal, after_one, after_two_digits, after_local_piece, is_full_stop, after_dotted_piece, after_local}
 use Rattle.query_tokens.proofs.Walks.{Passed, IsSound, HaveLength, PassesEach, passes, forward, length-after_pieces, after_pieces-more, after_pieces-none}
 

@@ -5,9 +5,10 @@ use Rattle.std.specs.Option.{option_map, option_map_or}
 use Rattle.std.proofs.lemmas.Bool.{eqb-true, and_parts}
 use Rattle.std.proofs.lemmas.Bool.Decides.{nat_tests}
 use Rattle.std.proofs.lemmas.Option.{same_Some}
-use Rattle.bm_term.specs.Classes.{is_digit}
-use Rattle.bm_term.specs.Text.{after_char, after_run, after_some, IsRun}
-use Rattle.bm_term.proofs.TextLemmas.{after_run-split, after_run-append, after_run-stop, length-after_run, after_char-some, after_some-some, after_some-append}
+use Rattle.rdf_text.specs.Classes.{is_digit}
+use Rattle.rdf_text.specs.scanning.Text.{after_char, after_run, after_some}
+use Rattle.rdf_text.specs.Text.{IsRun}
+use Rattle.rdf_text.proofs.TextLemmas.{after_run-split, after_run-append, after_run-stop, length-after_run, after_char-some, after_some-some, after_some-append}
 use Rattle.query_tokens.specs.declared.token.TokenKind.{TokenKind}
 use Rattle.query_tokens.specs.declared.token.TokenKind.TheVariants.{Integer, Decimal, Double}
 use Rattle.query_tokens.specs.Marks.{is_number_sign}

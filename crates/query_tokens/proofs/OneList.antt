@@ -2,7 +2,7 @@
 use Rattle.std.proofs.Common.{◌≡◌, ℕ, zero, suc, ◌+◌, ◌<◌, ◌≤◌, ◌⊎◌, inl, inr, List, [], ◌∷◌, ◌++◌, length, refl, ap, ◌∙◌, sym, subst, arith, append-nil, length-append}
 use Rattle.std.proofs.lemmas.Option.{same_Some}
 use Rattle.std.specs.Str.{encode_utf8_all}
-use Rattle.bm_term.specs.Text.{IsLongest}
+use Rattle.rdf_text.specs.Text.{IsLongest}
 use Rattle.query_tokens.specs.declared.token.TokenKind.{TokenKind}
 use Rattle.query_tokens.specs.Token.{IsToken, IsOfSomeRule, Lexeme}
 use Rattle.query_tokens.specs.Blanks.{AreBlanks, after_blanks}

@@ -10,9 +10,10 @@ use Rattle.std.proofs.lemmas.List.{nil_from_length}
 use Rattle.std.proofs.lemmas.List.Folds.{list_all-append}
 use Rattle.std.proofs.lemmas.Option.{same_Some}
 use Rattle.std.proofs.lemmas.Str.{encodes-append, encodes-chars}
-use Rattle.bm_term.specs.Classes.{is_letter, is_pn_chars_base, is_sparql_pn_chars_u, is_sparql_pn_chars}
-use Rattle.bm_term.specs.Text.{after_run, after_some, IsRun}
-use Rattle.bm_term.proofs.TextLemmas.{after_run-split, after_run-append, after_run-stop, after_run-after_run}
+use Rattle.rdf_text.specs.Classes.{is_letter, is_pn_chars_base, is_sparql_pn_chars_u, is_sparql_pn_chars}
+use Rattle.rdf_text.specs.scanning.Text.{after_run, after_some}
+use Rattle.rdf_text.specs.Text.{IsRun}
+use Rattle.rdf_text.proofs.TextLemmas.{after_run-split, after_run-append, after_run-stop, after_run-after_run}
 use Rattle.query_tokens.specs.declared.token.TokenKind.TheVariants.{Prefix, Prefixed, Word, Bad}
 use Rattle.query_tokens.specs.PrefixedNames.{IsPrefixName, is_prefix_char, after_local, read_local, after_prefix, read_name, HasNoPrefixBefore}
 use Rattle.query_tokens.specs.Token.{IsToken}

@@ -4,11 +4,13 @@ use Rattle.std.specs.List.{list_all}
 use Rattle.std.specs.Option.{option_map, option_map_or}
 use Rattle.std.proofs.lemmas.Bool.{and_parts}
 use Rattle.std.proofs.lemmas.Option.{option_and_then_some, same_Some}
-use Rattle.bm_term.specs.Classes.{is_letter, is_pn_chars_base, is_sparql_pn_chars_u, is_pn_chars_more, is_sparql_pn_chars}
-use Rattle.bm_term.specs.Names.{is_dotted, IsDottedName, dotted_end, after_dotted_name}
-use Rattle.bm_term.specs.Text.{after_char, after_run, after_some, IsRun}
-use Rattle.bm_term.proofs.TextLemmas.{length-after_run, after_char-some, after_some-some, after_some-append}
-use Rattle.bm_term.proofs.DottedNames.{after_dotted_name-sound}
+use Rattle.rdf_text.specs.Classes.{is_letter, is_pn_chars_base, is_sparql_pn_chars_u, is_pn_chars_more, is_sparql_pn_chars}
+use Rattle.rdf_text.specs.Names.{is_dotted, IsDottedName}
+use Rattle.rdf_text.specs.scanning.Names.{dotted_end, after_dotted_name}
+use Rattle.rdf_text.specs.scanning.Text.{after_char, after_run, after_some}
+use Rattle.rdf_text.specs.Text.{IsRun}
+use Rattle.rdf_text.proofs.TextLemmas.{length-after_run, after_char-some, after_some-some, after_some-append}
+use Rattle.rdf_text.proofs.DottedNames.{after_dotted_name-sound}
 use Rattle.query_tokens.specs.declared.token.TokenKind.{TokenKind}
 use Rattle.query_tokens.specs.declared.token.TokenKind.TheVariants.{Prefix, Prefixed, Word}
 use Rattle.query_tokens.specs.PrefixedNames.{IsPrefixName, IsPrefix, IsLocal, IsPrefixed, after_local, read_local, after_prefix, read_name}

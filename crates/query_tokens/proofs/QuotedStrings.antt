@@ -2,10 +2,10 @@
 use Rattle.std.proofs.Common.{◌≡◌, ℕ, true, false, ◌==◌, ◌||◌, not, inl, inr, Some, None, List, [], ◌∷◌, ◌++◌, refl, ap, ◌∙◌, sym, arith, append_assoc}
 use Rattle.std.proofs.lemmas.Bool.{and_parts, eq-eqb}
 use Rattle.std.proofs.lemmas.Bool.Decides.{nat_tests}
-use Rattle.bm_term.specs.Classes.{is_scalar}
-use Rattle.bm_term.specs.Text.{after_char}
-use Rattle.bm_term.specs.Repetition.{Star}
-use Rattle.bm_term.proofs.TextLemmas.{after_char-some}
+use Rattle.rdf_text.specs.Classes.{is_scalar}
+use Rattle.rdf_text.specs.scanning.Text.{after_char}
+use Rattle.rdf_text.specs.Repetition.{Star}
+use Rattle.rdf_text.proofs.TextLemmas.{after_char-some}
 use Rattle.rdf_escapes.specs.Strings.{is_quote, is_string_char, IsStringPiece}
 use Rattle.rdf_escapes.specs.Pieces.{values, after_values}
 use Rattle.rdf_escapes.specs.Reading.{string_piece}

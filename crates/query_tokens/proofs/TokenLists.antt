@@ -9,8 +9,9 @@ use Rattle.std.proofs.lemmas.Option.{same_Some}
 use Rattle.std.specs.Str.{chars, IsUtf8, encode_utf8_all}
 use Rattle.std.proofs.lemmas.Bool.Decides.{nat_tests}
 use Rattle.std.proofs.lemmas.Str.{chars-nil, encodes-chars, encodes-append}
-use Rattle.bm_term.specs.Text.{IsLongest, BeginsWithNone, before}
-use Rattle.bm_term.proofs.TextLemmas.{before-append, chars-empty}
+use Rattle.rdf_text.specs.Text.{IsLongest, BeginsWithNone}
+use Rattle.rdf_text.specs.scanning.Text.{before}
+use Rattle.rdf_text.proofs.TextLemmas.{before-append, chars-empty}
 use Rattle.query_tokens.specs.declared.token.TokenKind.{TokenKind}
 use Rattle.query_tokens.specs.declared.token.TokenKind.TheVariants.{Bad}
 use Rattle.query_tokens.specs.Token.{IsToken, IsOfSomeRule, Lexeme}

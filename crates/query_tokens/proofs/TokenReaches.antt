@@ -4,21 +4,21 @@ use Rattle.std.specs.List.{list_all}
 use Rattle.std.specs.Option.{option_map_or}
 use Rattle.std.proofs.lemmas.Bool.{eqb-true, eq-eqb, and_parts, or_cases}
 use Rattle.std.proofs.lemmas.Bool.Decides.{nat_tests}
-use Rattle.bm_term.specs.Classes.{is_letter, is_alphanumeric, is_digit, is_pn_chars_base, is_sparql_label_first, is_sparql_pn_chars}
-use Rattle.bm_term.specs.Names.{after_language_tag}
-use Rattle.bm_term.specs.Text.{after_char, after_run, IsRun}
-use Rattle.bm_term.specs.Repetition.{Star}
-use Rattle.bm_term.proofs.TextLemmas.{length-after_run, after_char-some}
-use Rattle.bm_term.proofs.DottedNames.{after_dotted_name-reaches}
-use Rattle.bm_term.proofs.LanguageTags.{after_language_tag-reaches, no_letter, no_alphanumeric}
+use Rattle.rdf_text.specs.Classes.{is_letter, is_alphanumeric, is_digit, is_pn_chars_base, is_sparql_label_first, is_sparql_pn_chars}
+use Rattle.rdf_text.specs.scanning.Names.{after_language_tag}
+use Rattle.rdf_text.specs.scanning.Text.{after_char, after_run}
+use Rattle.rdf_text.specs.Text.{IsRun}
+use Rattle.rdf_text.specs.Repetition.{Star}
+use Rattle.rdf_text.proofs.TextLemmas.{length-after_run, after_char-some}
+use Rattle.rdf_text.proofs.DottedNames.{after_dotted_name-reaches}
+use Rattle.rdf_text.proofs.LanguageTags.{after_language_tag-reaches, no_letter, no_alphanumeric}
 use Rattle.query_tokens.specs.declared.token.TokenKind.{TokenKind}
 use Rattle.query_tokens.specs.declared.token.TokenKind.TheVariants.{Iri, Prefix, Prefixed, Variable, Quoted, Tag, Integer, Decimal, Double, Word, Blank, Sign, Quotes, Bad}
-use Rattle.rdf_escapes.specs.Strings.{is_quote}
+use Rattle.rdf_escapes.specs.Strings.{is_quote, IsStringPiece}
 use Rattle.query_tokens.specs.Marks.{is_number_sign}
 use Rattle.query_tokens.specs.Iriref.{IsIriref, after_iri}
 use Rattle.query_tokens.specs.PrefixedNames.{IsPrefix, IsPrefixed, read_local, read_name}
 use Rattle.query_tokens.specs.Variables.{is_variable_inner, IsVariable, after_variable_name}
-use Rattle.rdf_escapes.specs.Strings.{IsStringPiece}
 use Rattle.query_tokens.specs.Strings.{IsQuoted, IsThreeQuotes, after_string}
 use Rattle.query_tokens.specs.Numbers.{IsSigned, IsDigits, IsFraction, IsScientific, read_fraction, read_number}
 use Rattle.query_tokens.specs.Signs.{is_sign, IsSign}

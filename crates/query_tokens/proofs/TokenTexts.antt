@@ -3,12 +3,12 @@ use Rattle.std.proofs.Common.{◌≡◌, ℕ, true, ◌==◌, if◌then◌else�
 use Rattle.std.specs.Option.{option_map_or}
 use Rattle.std.proofs.lemmas.Bool.{eqb-true}
 use Rattle.std.proofs.lemmas.Option.{cond_some, option_and_then_some, same_Some}
-use Rattle.bm_term.specs.Classes.{is_letter, is_alphanumeric, is_digit, is_pn_chars_base, is_sparql_label_first, is_sparql_pn_chars}
-use Rattle.bm_term.specs.Names.{after_dotted_name, after_language_tag}
-use Rattle.bm_term.specs.Text.{after_char, after_run}
-use Rattle.bm_term.proofs.TextLemmas.{after_run-split, after_run-append, after_char-some}
-use Rattle.bm_term.proofs.DottedNames.{after_dotted_name-sound}
-use Rattle.bm_term.proofs.LanguageTags.{after_language_tag-sound}
+use Rattle.rdf_text.specs.Classes.{is_letter, is_alphanumeric, is_digit, is_pn_chars_base, is_sparql_label_first, is_sparql_pn_chars}
+use Rattle.rdf_text.specs.scanning.Names.{after_dotted_name, after_language_tag}
+use Rattle.rdf_text.specs.scanning.Text.{after_char, after_run}
+use Rattle.rdf_text.proofs.TextLemmas.{after_run-split, after_run-append, after_char-some}
+use Rattle.rdf_text.proofs.DottedNames.{after_dotted_name-sound}
+use Rattle.rdf_text.proofs.LanguageTags.{after_language_tag-sound}
 use Rattle.query_tokens.specs.declared.token.TokenKind.{TokenKind}
 use Rattle.query_tokens.specs.declared.token.TokenKind.TheVariants.{Iri, Variable, Quoted, Tag, Blank, Sign, Quotes}
 use Rattle.rdf_escapes.specs.Strings.{is_quote}

@@ -1,10 +1,11 @@
 -- Walks over pieces in a row, each of which is passed whatever follows it.
 use Rattle.std.proofs.Common.{◌≡◌, ℕ, ◌<◌, ◌≤◌, ◌⊎◌, inl, inr, Option, Some, None, List, [], ◌∷◌, ◌++◌, length, refl, ap, ◌∙◌, sym, arith, length-append}
 use Rattle.std.proofs.lemmas.Bool.{eq-eqb}
-use Rattle.bm_term.specs.Text.{after_char}
-use Rattle.bm_term.specs.Repetition.{Star, after_pieces}
-use Rattle.bm_term.proofs.TextLemmas.{after_char-some}
-use Rattle.bm_term.proofs.RepetitionLemmas.{GoesForward, after_pieces-step, PassesPieces, splits, passed}
+use Rattle.rdf_text.specs.scanning.Text.{after_char}
+use Rattle.rdf_text.specs.Repetition.{Star}
+use Rattle.rdf_text.specs.scanning.Repetition.{after_pieces}
+use Rattle.rdf_text.proofs.TextLemmas.{after_char-some}
+use Rattle.rdf_text.proofs.RepetitionLemmas.{GoesForward, after_pieces-step, PassesPieces, splits, passed}
 
 -- the front of a text that one step passes
 pub record Passed {V : Type 0} (P : List ℕ → V → Type 0) (text rest : List ℕ) : Type 0 where

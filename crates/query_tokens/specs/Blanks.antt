@@ -1,9 +1,10 @@
 -- White space and comments, which separate tokens and are dropped. SPARQL 1.1 Query, sections 19.3 and 19.4.
 use Rattle.std.specs.Prelude.{◌≡◌, ℕ, Bool, ◌||◌, ◌==◌, not, ◌⊎◌, if◌then◌else◌, IsTrue, Option, Some, None, List, [], ◌∷◌}
 use Rattle.std.specs.List.{list_all}
-use Rattle.bm_term.specs.Marks.{tab, line_feed, carriage_return, space, number_sign}
-use Rattle.bm_term.specs.Text.{after_run}
-use Rattle.bm_term.specs.Repetition.{Star, after_pieces}
+use Rattle.rdf_text.specs.Marks.{tab, line_feed, carriage_return, space, number_sign}
+use Rattle.rdf_text.specs.scanning.Text.{after_run}
+use Rattle.rdf_text.specs.Repetition.{Star}
+use Rattle.rdf_text.specs.scanning.Repetition.{after_pieces}
 
 -- LF | CR
 abbrev pub is_line_end : ℕ → Bool

@@ -1,7 +1,7 @@
 -- IRIREF ::= '<' (IRICHAR | UCHAR)* '>'. SPARQL 1.1 Query, section 19.8, where an escape is read as in N-Triples.
 use Rattle.std.specs.Prelude.{ℕ, Option, List}
-use Rattle.bm_term.specs.Marks.{greater_than}
-use Rattle.bm_term.specs.Text.{after_char}
+use Rattle.rdf_text.specs.Marks.{greater_than}
+use Rattle.rdf_text.specs.scanning.Text.{after_char}
 use Rattle.rdf_escapes.specs.Iris.{IsIriRef}
 use Rattle.rdf_escapes.specs.Pieces.{after_values}
 use Rattle.rdf_escapes.specs.Reading.{iri_piece}

@@ -1,6 +1,6 @@
 -- The marks of the query grammar that bm_term does not name.
 use Rattle.std.specs.Prelude.{ℕ, Bool, ◌||◌, ◌==◌}
-use Rattle.bm_term.specs.Marks.{hyphen}
+use Rattle.rdf_text.specs.Marks.{hyphen}
 
 -- $
 abbrev pub dollar_sign : ℕ

@@ -2,9 +2,10 @@
 use Rattle.std.specs.Prelude.{◌≡◌, ℕ, Bool, ◌||◌, ◌==◌, ◌⊎◌, if◌then◌else◌, IsTrue, Option, Some, None, List, [], ◌∷◌, ◌++◌}
 use Rattle.std.specs.List.{list_all}
 use Rattle.std.specs.Option.{option_map, option_map_or}
-use Rattle.bm_term.specs.Marks.{full_stop}
-use Rattle.bm_term.specs.Classes.{is_digit}
-use Rattle.bm_term.specs.Text.{after_char, after_run, after_some, IsRun}
+use Rattle.rdf_text.specs.Marks.{full_stop}
+use Rattle.rdf_text.specs.Classes.{is_digit}
+use Rattle.rdf_text.specs.scanning.Text.{after_char, after_run, after_some}
+use Rattle.rdf_text.specs.Text.{IsRun}
 use Rattle.query_tokens.specs.declared.token.TokenKind.{TokenKind}
 use Rattle.query_tokens.specs.declared.token.TokenKind.TheVariants.{Integer, Decimal, Double}
 use Rattle.query_tokens.specs.Marks.{letter_e, capital_e, is_number_sign}

@@ -2,11 +2,13 @@
 use Rattle.std.specs.Prelude.{◌≡◌, ℕ, Bool, ◌||◌, ◌==◌, ◌⊎◌, if◌then◌else◌, IsTrue, Option, Some, None, option_and_then, ◌<◌, List, [], ◌∷◌, ◌++◌, length}
 use Rattle.std.specs.Option.{option_map, option_map_or}
 use Rattle.std.specs.Str.{encode_utf8_all}
-use Rattle.bm_term.specs.Marks.{full_stop, colon, backslash}
-use Rattle.bm_term.specs.Classes.{is_pn_chars_base, is_sparql_pn_chars_u, is_sparql_pn_chars, is_digit, is_hex, is_letter}
-use Rattle.bm_term.specs.Names.{is_dotted, IsDottedName, after_dotted_name}
-use Rattle.bm_term.specs.Text.{after_char, after_run, after_some}
-use Rattle.bm_term.specs.Repetition.{Star, after_pieces}
+use Rattle.rdf_text.specs.Marks.{full_stop, colon, backslash}
+use Rattle.rdf_text.specs.Classes.{is_pn_chars_base, is_sparql_pn_chars_u, is_sparql_pn_chars, is_digit, is_hex, is_letter}
+use Rattle.rdf_text.specs.Names.{is_dotted, IsDottedName}
+use Rattle.rdf_text.specs.scanning.Names.{after_dotted_name}
+use Rattle.rdf_text.specs.scanning.Text.{after_char, after_run, after_some}
+use Rattle.rdf_text.specs.Repetition.{Star}
+use Rattle.rdf_text.specs.scanning.Repetition.{after_pieces}
 use Rattle.query_tokens.specs.declared.token.TokenKind.{TokenKind}
 use Rattle.query_tokens.specs.declared.token.TokenKind.TheVariants.{Prefix, Prefixed, Word}
 use Rattle.query_tokens.specs.Marks.{percent_sign}

@@ -1,11 +1,10 @@
 -- How a token is read from the front of a text: its kind, and what follows it. The laws that tie this to tokens are in proofs/.
 use Rattle.std.specs.Prelude.{unwrap_or, ℕ, ◌==◌, if◌then◌else◌, Option, Some, None, List, [], ◌∷◌}
 use Rattle.std.specs.Option.{option_map, option_map_or}
-use Rattle.bm_term.specs.Marks.{full_stop, colon, less_than, at_sign, circumflex, low_line, hyphen}
-use Rattle.bm_term.specs.Classes.{is_letter, is_alphanumeric, is_digit, is_pn_chars_base, is_sparql_label_first, is_sparql_pn_chars}
-use Rattle.bm_term.specs.Names.{after_dotted_name, after_language_tag}
-use Rattle.bm_term.specs.Text.{after_char}
-use Rattle.bm_term.specs.Reading.{◌>>=◌}
+use Rattle.rdf_text.specs.Marks.{full_stop, colon, less_than, at_sign, circumflex, low_line, hyphen}
+use Rattle.rdf_text.specs.Classes.{is_letter, is_alphanumeric, is_digit, is_pn_chars_base, is_sparql_label_first, is_sparql_pn_chars}
+use Rattle.rdf_text.specs.scanning.Names.{after_dotted_name, after_language_tag}
+use Rattle.rdf_text.specs.scanning.Text.{after_char, ◌>>=◌}
 use Rattle.query_tokens.specs.declared.token.TokenKind.{TokenKind}
 use Rattle.query_tokens.specs.declared.token.TokenKind.TheVariants.{Iri, Variable, Quoted, Tag, Blank, Sign, Quotes, Bad}
 use Rattle.rdf_escapes.specs.Strings.{is_quote}

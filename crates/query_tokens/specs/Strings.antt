@@ -2,7 +2,7 @@
 -- an escape stands for a character of the string or IRI. Section 19.2 replaces it before tokens are read: there
 -- "\u005Cn" is a line feed, and here a backslash and an n.
 use Rattle.std.specs.Prelude.{◌≡◌, ℕ, IsTrue, Option, List, [], ◌∷◌}
-use Rattle.bm_term.specs.Text.{after_char}
+use Rattle.rdf_text.specs.scanning.Text.{after_char}
 use Rattle.rdf_escapes.specs.Strings.{is_quote, IsString}
 use Rattle.rdf_escapes.specs.Pieces.{after_values}
 use Rattle.rdf_escapes.specs.Reading.{string_piece}

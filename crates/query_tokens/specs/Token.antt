@@ -1,9 +1,9 @@
 -- What a token is: a rule for each kind. SPARQL 1.1 Query, section 19.8, as this project reads it.
 use Rattle.std.specs.Prelude.{◌≡◌, ℕ, List, ◌∷◌}
-use Rattle.bm_term.specs.Marks.{at_sign, colon, low_line}
-use Rattle.bm_term.specs.Classes.{is_letter, is_alphanumeric, is_sparql_label_first, is_sparql_pn_chars}
-use Rattle.bm_term.specs.Names.{IsDottedName, IsLanguageTag}
-use Rattle.bm_term.specs.Text.{IsRun}
+use Rattle.rdf_text.specs.Marks.{at_sign, colon, low_line}
+use Rattle.rdf_text.specs.Classes.{is_letter, is_alphanumeric, is_sparql_label_first, is_sparql_pn_chars}
+use Rattle.rdf_text.specs.Names.{IsDottedName, IsLanguageTag}
+use Rattle.rdf_text.specs.Text.{IsRun}
 use Rattle.query_tokens.specs.declared.token.Token.{Token}
 use Rattle.query_tokens.specs.declared.token.TokenKind.{TokenKind}
 use Rattle.query_tokens.specs.declared.token.TokenKind.TheVariants.{Iri, Prefix, Prefixed, Variable, Quoted, Tag, Integer, Decimal, Double, Word, Blank, Sign, Quotes, Bad}

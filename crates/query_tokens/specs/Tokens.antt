@@ -1,7 +1,7 @@
 -- The tokens of a source. At each place the token is the longest text that a rule allows. SPARQL 1.1 Query, section 19.8.
 use Rattle.std.specs.Prelude.{◌≡◌, ℕ, ◌+◌, ◌<◌, ◌⊎◌, List, [], ◌∷◌, ◌++◌, length, take, drop}
 use Rattle.std.specs.Str.{chars, encode_utf8_all}
-use Rattle.bm_term.specs.Text.{IsLongest, BeginsWithNone}
+use Rattle.rdf_text.specs.Text.{IsLongest, BeginsWithNone}
 use Rattle.query_tokens.specs.declared.token.TokenKind.{TokenKind}
 use Rattle.query_tokens.specs.declared.token.TokenKind.TheVariants.{Bad}
 use Rattle.query_tokens.specs.Token.{IsToken, IsOfSomeRule, Lexeme}

@@ -2,8 +2,8 @@
 use Rattle.std.specs.Prelude.{◌≡◌, ℕ, Bool, ◌||◌, ◌==◌, if◌then◌else◌, IsTrue, Option, Some, None, List, [], ◌∷◌}
 use Rattle.std.specs.Int.{is_in_range}
 use Rattle.std.specs.List.{list_all}
-use Rattle.bm_term.specs.Classes.{is_sparql_label_first}
-use Rattle.bm_term.specs.Text.{after_run}
+use Rattle.rdf_text.specs.Classes.{is_sparql_label_first}
+use Rattle.rdf_text.specs.scanning.Text.{after_run}
 use Rattle.query_tokens.specs.Marks.{question_mark, dollar_sign}
 
 -- '?' | '$'

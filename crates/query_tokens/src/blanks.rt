@@ -5,7 +5,7 @@ ghost use Rattle.std.specs.Str.{chars, IsUtf8};
 ghost use Rattle.query_tokens.specs.Blanks.{is_white_space, after_blank, after_blanks};
 
 use crate::class_types::CommentChar;
-use bm_term::{after_run, split_char};
+use rdf_text::{after_run, split_char};
 
 // The text after the white space and the comments that it begins with.
 #[tactic(auto, using(crate::proofs::BlankRuns::blanks))]

@@ -1,12 +1,10 @@
 // The classes of characters of tokens as types, for the walks over a text that take one.
-ghost use Rattle.bm_term.specs.Classes as of;
+ghost use Rattle.rdf_text.specs.Classes as of;
 ghost use Rattle.query_tokens.specs.Blanks as blanks;
 ghost use Rattle.query_tokens.specs.PrefixedNames as names;
 ghost use Rattle.query_tokens.specs.Variables as variables;
 
-use bm_term::{
-    CharClass, is_digit, is_hex, is_sparql_label_first, is_sparql_pn_chars, is_sparql_pn_chars_u,
-};
+use rdf_text::{CharClass, is_digit, is_hex, is_sparql_label_first, is_sparql_pn_chars, is_sparql_pn_chars_u};
 
 /// `0` to `9`.
 #[derive(Clone, Copy)]

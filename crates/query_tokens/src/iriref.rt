@@ -4,7 +4,7 @@ ghost use Rattle.std.specs.Option.{option_map};
 ghost use Rattle.std.specs.Str.{chars, IsUtf8};
 ghost use Rattle.query_tokens.specs.Iriref.{after_iri};
 
-use bm_term::after_char;
+use rdf_text::after_char;
 use rdf_escapes::after_iri_pieces;
 
 // The text after an IRI whose '<' is already read.

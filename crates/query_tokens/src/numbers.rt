@@ -6,7 +6,7 @@ ghost use Rattle.query_tokens.specs.Numbers.{after_sign, after_exponent, with_ex
 
 use crate::class_types::Digit;
 use crate::token::TokenKind;
-use bm_term::{after_char, after_run, after_some, is_digit, split_char};
+use rdf_text::{after_char, after_run, after_some, is_digit, split_char};
 
 // A number without its sign.
 #[tactic(auto, unfolding(crate::specs::Numbers::read_number))]

@@ -2,16 +2,13 @@
 ghost use Rattle.std.specs.Prelude.{◌≡◌, ℕ, Bool, IfSome};
 ghost use Rattle.std.specs.Option.{option_map};
 ghost use Rattle.std.specs.Str.{chars, IsUtf8};
-ghost use Rattle.bm_term.specs.Repetition.{after_pieces};
+ghost use Rattle.rdf_text.specs.scanning.Repetition.{after_pieces};
 ghost use Rattle.query_tokens.specs.PrefixedNames.{after_one, after_two_digits, after_local_piece, after_dotted_piece, after_local, read_local, after_prefix, read_name, HasNoPrefixBefore};
 ghost use Rattle.query_tokens.specs.Scanning.{read_or_bad};
 
 use crate::class_types::{FullStop, Hex, LocalEscape, LocalFirst, LocalInner, PrefixChar};
 use crate::token::TokenKind;
-use bm_term::{
-    CharClass, Letter, PnCharsBase, SparqlPnChars, after_char, after_dotted_name, after_run,
-    after_some, split_char,
-};
+use rdf_text::{CharClass, Letter, PnCharsBase, SparqlPnChars, after_char, after_dotted_name, after_run, after_some, split_char};
 
 // A prefixed name, a prefix that has a name, or a word. No prefix begins where more than `unprefixed`
 // bytes are left.

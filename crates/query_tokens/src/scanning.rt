@@ -11,14 +11,11 @@ use crate::prefixed_names::{read_local, read_name};
 use crate::signs::read_sign;
 use crate::strings::read_quoted;
 use crate::token::TokenKind;
-use bm_term::{
-    Alphanumeric, Letter, SparqlLabelFirst, SparqlPnChars, after_char, after_dotted_name,
-    after_language_tag, is_digit, is_pn_chars_base, split_char,
-};
+use rdf_text::{Alphanumeric, Letter, SparqlLabelFirst, SparqlPnChars, after_char, after_dotted_name, after_language_tag, is_digit, is_pn_chars_base, split_char};
 
 // The kind of the token that the text begins with, and the text after it; where no token begins, all is
 // bad. No prefix with a name begins where more than `unprefixed` bytes are left.
-#[tactic(auto, using(bm_term::proofs::TextLemmas::empty_text), unfolding(crate::specs::Scanning::read_or_bad))]
+#[tactic(auto, using(rdf_text::proofs::TextLemmas::empty_text), unfolding(crate::specs::Scanning::read_or_bad))]
 pub(crate) fn read_or_bad(text: &str, unprefixed: usize) -> (TokenKind, &str)
     requires { HasNoPrefixBefore unprefixed (chars text.now) }
     ensures chars { (result.0, chars result.1.now) ≡ read_or_bad (chars text.now) }
@@ -46,7 +43,7 @@ fn read_token(text: &str, unprefixed: usize) -> Option<(TokenKind, &str)>
 
 // A token that begins with this character, which is already read, and which is neither of a name nor a
 // digit.
-#[tactic(auto, using(bm_term::proofs::LanguageTags::hyphens), unfolding(crate::specs::Scanning::read_marked))]
+#[tactic(auto, using(rdf_text::proofs::LanguageTags::hyphens), unfolding(crate::specs::Scanning::read_marked))]
 fn read_marked(c: char, text: &str) -> Option<(TokenKind, &str)>
     ensures chars { option_map (λ p. (p.0, chars p.1.now)) result ≡ read_marked c (chars text.now) }
     ensures utf8 { IfSome result (λ p. IsUtf8 p.1.now) }

@@ -10,7 +10,7 @@ ghost use Rattle.query_tokens.specs.Scanning.{as_kind, or_sign, after_circumflex
 use crate::numbers::{read_fraction, read_number};
 use crate::token::TokenKind;
 use crate::variables::after_variable_name;
-use bm_term::after_char;
+use rdf_text::after_char;
 
 // A token that begins with this character, which is already read, and which is neither of a name nor a
 // digit nor begins a quoted text, a tag or a label.

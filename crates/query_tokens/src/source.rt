@@ -12,7 +12,7 @@ use crate::prefixed_names::unprefixed_from;
 use crate::scanning::read_or_bad;
 use crate::token::Token;
 use crate::token_list::TokenList;
-use bm_term::before;
+use rdf_text::before;
 use std::alloc::{AllocError, Global};
 
 /// The tokens of a query in order; its text is UTF-8. At each place the token is the longest text that a

@@ -6,7 +6,7 @@ ghost use Rattle.query_tokens.specs.Strings.{after_string};
 ghost use Rattle.query_tokens.specs.Scanning.{after_two_more, read_quoted};
 
 use crate::token::TokenKind;
-use bm_term::after_char;
+use rdf_text::after_char;
 use rdf_escapes::after_string_pieces;
 
 // A string, or three marks in a row, of which the first is already read.

@@ -5,7 +5,7 @@ ghost use Rattle.std.specs.Str.{chars, IsUtf8};
 ghost use Rattle.query_tokens.specs.Variables.{after_variable_name};
 
 use crate::class_types::VariableInner;
-use bm_term::{after_run, is_sparql_label_first, split_char};
+use rdf_text::{after_run, is_sparql_label_first, split_char};
 
 // The text after a variable whose mark is already read.
 #[tactic(auto, unfolding(crate::specs::Variables::after_variable_name))]

@@ -3,7 +3,7 @@ use Rattle.std.proofs.Common.{◌≡◌, ℕ, ◌+◌, true, ◌⊎◌, inl, inr
 use Rattle.std.proofs.lemmas.List.Elements.{All-nil, All-cons}
 use Rattle.std.proofs.lemmas.Str.{chars-encodes, scalars-chars}
 use Rattle.std.specs.Str.{chars, all_scalars, encode_utf8_all, IsUtf8}
-use Rattle.bm_term.proofs.Scalars.{scalars_front, scalars_back}
+use Rattle.rdf_text.proofs.Scalars.{scalars_front, scalars_back}
 use Rattle.query_tokens.specs.declared.token.TokenKind.TheVariants.{Bad}
 use Rattle.query_tokens.specs.Token.{IsToken, Lexeme}
 use Rattle.query_tokens.specs.Tokens.{IsLongestToken, IsBadRest, AreTokensFrom, AreTokens}

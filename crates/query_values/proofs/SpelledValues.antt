@@ -8,9 +8,9 @@ use Rattle.std.specs.Char.{to_ascii_lowercase}
 use Rattle.std.specs.List.{concat}
 use Rattle.std.specs.Str.{chars, encode_utf8_all, IsUtf8}
 use Rattle.bm_term.specs.Canonical.{literal_of, IsTerm, plain, typed, xsd_string}
-use Rattle.bm_term.specs.Marks.{at_sign, colon, less_than, greater_than}
-use Rattle.bm_term.specs.Text.{behind_first, after_char}
-use Rattle.bm_term.proofs.TextLemmas.{after_char-some}
+use Rattle.rdf_text.specs.Marks.{at_sign, colon, less_than, greater_than}
+use Rattle.rdf_text.specs.scanning.Text.{after_first, after_char}
+use Rattle.rdf_text.proofs.TextLemmas.{after_char-some}
 use Rattle.rdf_escapes.specs.Iris.{IsIriRef}
 use Rattle.rdf_escapes.specs.Strings.{is_quote, IsString}
 use Rattle.rdf_escapes.specs.Pieces.{values, after_values}
@@ -27,13 +27,13 @@ use Rattle.query_values.proofs.TermLaws.{lower_characters, other_text}
 use Rattle.query_values.proofs.TokenLaws.{lexical_characters, number_type-irichars, number_type-other, xsd_boolean-irichars, xsd_boolean-other}
 
 -- what is read of a text in brackets is what stands behind the first of them
-read_is_behind : (text rest iri : List ℕ) → read_iri_ref text ≡ Some (iri, rest) → values iri_piece (behind_first text) ≡ iri
+read_is_behind : (text rest iri : List ℕ) → read_iri_ref text ≡ Some (iri, rest) → values iri_piece (after_first text) ≡ iri
 unfolding read_iri_ref read_iri_body
 read_is_behind text rest iri e =
     option_and_then_some _ (after_char less_than text) (iri, rest) e (λ body opens e.
     option_and_then_some _ (after_char greater_than (after_values iri_piece body)) (iri, rest) e (λ end closes e.
     let (same, ends) = some_pair_parts (values iri_piece body) iri end rest e in
-    ap (λ xs. values iri_piece (behind_first xs)) (after_char-some less_than text body opens) ∙ same))
+    ap (λ xs. values iri_piece (after_first xs)) (after_char-some less_than text body opens) ∙ same))
 
 pub iri_of-spells : (token : Lexeme) (iri : List ℕ) → IsIriRef (chars token.text) iri → iri_of token ≡ iri
 unfolding iri_of
@@ -42,7 +42,7 @@ iri_of-spells token iri is =
 
 pub iri_of-irichars : (token : Lexeme) → AreIriChars (iri_of token)
 unfolding iri_of
-iri_of-irichars token = iri_values-irichars (behind_first (chars token.text))
+iri_of-irichars token = iri_values-irichars (after_first (chars token.text))
 
 read_is_between : (mark : ℕ) (text rest lexical : List ℕ) → read_string mark text ≡ Some (lexical, rest) → between_marks text ≡ lexical
 unfolding read_string read_string_body

@@ -1,11 +1,11 @@
 -- Worked examples of what tokens stand for.
 use Rattle.std.proofs.Common.{◌≡◌, ℕ, refl, List, [], ◌∷◌}
 use Rattle.std.specs.Prelude.{codes}
-use Rattle.bm_term.specs.Classes.{is_scalar, is_digit, is_hex, is_irichar}
-use Rattle.bm_term.specs.Canonical.{literal_of, plain, xsd_string, escape_letter, canonical_chars}
-use Rattle.bm_term.specs.Escapes.{echar_value}
-use Rattle.bm_term.specs.Marks.{line_feed}
-use Rattle.bm_term.specs.Text.{after_run}
+use Rattle.rdf_text.specs.Classes.{is_scalar, is_digit, is_hex, is_irichar}
+use Rattle.bm_term.specs.Canonical.{literal_of, plain, xsd_string, canonical_chars}
+use Rattle.rdf_text.specs.Spelling.{escape_letter, echar_value}
+use Rattle.rdf_text.specs.Marks.{line_feed}
+use Rattle.rdf_text.specs.scanning.Text.{after_run}
 use Rattle.rdf_escapes.specs.Escapes.{hex_value}
 use Rattle.rdf_escapes.specs.Pieces.{pieces}
 use Rattle.rdf_escapes.specs.Strings.{is_string_char}

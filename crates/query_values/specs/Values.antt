@@ -4,10 +4,10 @@ use Rattle.std.specs.Prelude.{ℕ, Bool, ◌==◌, not, IsTrue, codes, List, [],
 use Rattle.std.specs.Char.{to_ascii_lowercase}
 use Rattle.std.specs.List.{filter, list_all}
 use Rattle.std.specs.Str.{chars, IsUtf8}
-use Rattle.bm_term.specs.Marks.{colon, backslash}
-use Rattle.bm_term.specs.Classes.{is_irichar}
+use Rattle.rdf_text.specs.Marks.{colon, backslash}
+use Rattle.rdf_text.specs.Classes.{is_irichar}
 use Rattle.bm_term.specs.Canonical.{RdfTerm, iri, plain, tagged, typed, literal_of}
-use Rattle.bm_term.specs.Text.{behind_first, after_run, before}
+use Rattle.rdf_text.specs.scanning.Text.{after_first, after_run, before}
 use Rattle.rdf_escapes.specs.Pieces.{values}
 use Rattle.rdf_escapes.specs.Reading.{iri_piece, string_piece}
 use Rattle.query_tokens.specs.declared.token.TokenKind.{TokenKind}
@@ -21,7 +21,7 @@ pub record IsSpelled (token : Lexeme) : Type 0 where
 
 -- the characters that an IRI in brackets spells, its escapes undone
 unfoldable pub iri_of : Lexeme → List ℕ
-iri_of token = values iri_piece (behind_first (chars token.text))
+iri_of token = values iri_piece (after_first (chars token.text))
 
 unfoldable pub is_no_colon : ℕ → Bool
 is_no_colon c = not (c == colon)
@@ -39,7 +39,7 @@ is_no_backslash c = not (c == backslash)
 
 -- the local name of a prefixed name: what stands behind the colon, without the backslashes of its escapes
 unfoldable pub local_of : Lexeme → List ℕ
-local_of token = filter is_no_backslash (behind_first (from_colon (chars token.text)))
+local_of token = filter is_no_backslash (after_first (from_colon (chars token.text)))
 
 -- the IRI of a prefixed name, with the namespace of its prefix
 abbrev pub prefixed_iri : List ℕ → Lexeme → List ℕ
@@ -56,11 +56,11 @@ lexical_of token = between_marks (chars token.text)
 
 -- a language tag, in lower case and without its mark
 unfoldable pub tag_of : Lexeme → List ℕ
-tag_of token = map to_ascii_lowercase (behind_first (chars token.text))
+tag_of token = map to_ascii_lowercase (after_first (chars token.text))
 
 -- the bytes of a variable's name, without its mark
 unfoldable pub name_of : Lexeme → List ℕ
-name_of token = behind_first token.text
+name_of token = after_first token.text
 
 -- all of them may stand in an IRI
 abbrev pub AreIriChars : List ℕ → Type 0

@@ -4,7 +4,7 @@ ghost use Rattle.std.specs.Char.{to_ascii_lowercase};
 ghost use Rattle.std.specs.List.{concat};
 ghost use Rattle.std.specs.Str.{chars, all_scalars, encode_utf8_all, IsUtf8};
 ghost use Rattle.bm_term.specs.Canonical.{IsLowerTag, IsTerm};
-ghost use Rattle.bm_term.specs.Marks.{at_sign, colon};
+ghost use Rattle.rdf_text.specs.Marks.{at_sign, colon};
 ghost use Rattle.rdf_escapes.specs.Iris.{IsIriRef};
 ghost use Rattle.rdf_escapes.specs.Strings.{is_quote, IsString};
 ghost use Rattle.query_tokens.specs.PrefixedNames.{IsPrefixName, SpellsLocal};

@@ -2,11 +2,11 @@
 ghost use Rattle.std.specs.Prelude.{◌≡◌, [], ◌∷◌, ◌++◌, IfOk, OnOk, string_bytes};
 ghost use Rattle.std.specs.List.{filter};
 ghost use Rattle.std.specs.Str.{chars, encode_utf8_all};
-ghost use Rattle.bm_term.specs.Text.{behind_first};
+ghost use Rattle.rdf_text.specs.scanning.Text.{after_first};
 ghost use Rattle.query_tokens.specs.Token.{shown};
 ghost use Rattle.query_values.specs.Values.{IsSpelled, from_colon, is_no_colon, is_no_backslash, iri_of, prefix_of, local_of, prefixed_iri, name_of};
 
-use bm_term::{CharClass, after_run, before, split_char};
+use rdf_text::{CharClass, after_run, before, split_char};
 use query_tokens::Token;
 use rdf_escapes::push_iri_pieces;
 use std::alloc::{AllocError, Global};
@@ -36,8 +36,8 @@ pub(crate) fn text_of<'a>(token: Token<'a>) -> &'a str
 }
 
 /// What stands behind the first character of a text.
-pub(crate) fn behind_first(text: &str) -> &str
-    ensures { chars result.now ≡ behind_first (chars text.now) }
+pub(crate) fn after_first(text: &str) -> &str
+    ensures { chars result.now ≡ after_first (chars text.now) }
 {
     match split_char(text) {
         Some((_, rest)) => rest,
@@ -59,7 +59,7 @@ pub fn iri(alloc: Global, token: Token<'_>) -> Result<String, AllocError>
     ensures { IfOk result (λ iri. chars (string_bytes iri) ≡ iri_of (shown token.entry)) }
 {
     let mut iri = String::new(alloc);
-    push_iri_pieces(&mut iri, behind_first(text_of(token)))?;
+    push_iri_pieces(&mut iri, after_first(text_of(token)))?;
     Ok(iri)
 }
 
@@ -83,7 +83,7 @@ pub fn prefixed_iri(alloc: Global, namespace: &str, token: Token<'_>) -> Result<
     ensures { IfOk result (λ iri. chars (string_bytes iri) ≡ prefixed_iri (chars namespace.now) (shown token.entry)) }
 {
     let mut iri = String::from_str(alloc, namespace)?;
-    push_without_backslashes(&mut iri, behind_first(from_colon(text_of(token))))?;
+    push_without_backslashes(&mut iri, after_first(from_colon(text_of(token))))?;
     Ok(iri)
 }
 

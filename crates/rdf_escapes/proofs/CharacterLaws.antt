@@ -4,9 +4,9 @@ use Rattle.std.proofs.lemmas.Bool.{eqb-true}
 use Rattle.std.proofs.lemmas.Bool.Decides.{nat_tests}
 use Rattle.std.proofs.lemmas.Option.{cond_some, option_and_then_some, some_pair_parts}
 use Rattle.std.specs.Option.{option_map, option_or}
-use Rattle.bm_term.specs.Classes.{is_scalar, is_irichar}
-use Rattle.bm_term.specs.Escapes.{echar_value}
-use Rattle.bm_term.specs.Marks.{backslash, greater_than}
+use Rattle.rdf_text.specs.Classes.{is_scalar, is_irichar}
+use Rattle.rdf_text.specs.Spelling.{echar_value}
+use Rattle.rdf_text.specs.Marks.{backslash, greater_than}
 use Rattle.rdf_escapes.specs.Escapes.{IsEchar, IsUchar, uchar_length}
 use Rattle.rdf_escapes.specs.Pieces.{GoesForward, values, after_values}
 use Rattle.rdf_escapes.specs.Iris.{IsIriPiece}

@@ -6,9 +6,9 @@ use Rattle.std.proofs.lemmas.Option.{cond_some, option_and_then_some, same_Some,
 use Rattle.std.proofs.lemmas.List.Folds.{list_all-append}
 use Rattle.std.specs.Cmp.Derive.{both_true}
 use Rattle.std.specs.List.{list_all}
-use Rattle.bm_term.specs.Classes.{is_scalar, is_hex}
-use Rattle.bm_term.specs.Marks.{backslash}
-use Rattle.bm_term.proofs.Scalars.{is_scalar-scalar}
+use Rattle.rdf_text.specs.Classes.{is_scalar, is_hex}
+use Rattle.rdf_text.specs.Marks.{backslash}
+use Rattle.rdf_text.proofs.Scalars.{is_scalar-scalar}
 use Rattle.rdf_escapes.specs.Escapes.{letter_u, capital_u, hex_value, hex_number, uchar_length, IsUchar}
 use Rattle.rdf_escapes.specs.Reading.{hex_digit, four_digits, eight_digits, uchar_number, read_uchar}
 

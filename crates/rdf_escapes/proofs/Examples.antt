@@ -1,9 +1,9 @@
 -- Worked examples of the definitions.
 use Rattle.std.proofs.Common.{◌≡◌, refl, Some, None, [], ◌∷◌}
 use Rattle.std.specs.Prelude.{codes}
-use Rattle.bm_term.specs.Classes.{is_scalar, is_digit, is_hex, is_irichar}
-use Rattle.bm_term.specs.Escapes.{echar_value}
-use Rattle.bm_term.specs.Marks.{line_feed, quotation_mark, apostrophe}
+use Rattle.rdf_text.specs.Classes.{is_scalar, is_digit, is_hex, is_irichar}
+use Rattle.rdf_text.specs.Spelling.{echar_value}
+use Rattle.rdf_text.specs.Marks.{line_feed, quotation_mark, apostrophe}
 use Rattle.rdf_escapes.specs.Escapes.{hex_value, hex_number, uchar_length, letter_u, capital_u, IsUchar}
 use Rattle.rdf_escapes.specs.Pieces.{pieces}
 use Rattle.rdf_escapes.specs.Strings.{is_string_char}

@@ -6,15 +6,15 @@ use Rattle.std.specs.Cmp.Derive.{both_true}
 use Rattle.std.specs.List.{list_all}
 use Rattle.std.specs.Str.{all_scalars}
 use lib.Utf8.{scalar}
-use Rattle.bm_term.specs.Classes.{is_scalar, is_irichar, is_excluded_mark}
-use Rattle.bm_term.specs.Escapes.{echar_value}
-use Rattle.bm_term.specs.Marks.{line_feed, carriage_return, backslash}
-use Rattle.bm_term.specs.Repetition.{Star}
+use Rattle.rdf_text.specs.Classes.{is_scalar, is_irichar, is_excluded_mark}
+use Rattle.rdf_text.specs.Spelling.{echar_value}
+use Rattle.rdf_text.specs.Marks.{line_feed, carriage_return, backslash}
+use Rattle.rdf_text.specs.Repetition.{Star}
 use Rattle.rdf_escapes.specs.Iris.{IsIriPiece}
 use Rattle.rdf_escapes.specs.Strings.{is_string_char, IsStringPiece}
 use Rattle.rdf_escapes.specs.Pieces.{values}
 use Rattle.rdf_escapes.specs.Reading.{iri_piece, string_piece}
-use Rattle.bm_term.proofs.Scalars.{is_scalar-scalar}
+use Rattle.rdf_text.proofs.Scalars.{is_scalar-scalar}
 use Rattle.rdf_escapes.proofs.PieceLaws.{splits}
 use Rattle.rdf_escapes.proofs.CharacterLaws.{iri_piece-forward, iri_piece-passes, string_piece-forward, string_piece-passes}
 

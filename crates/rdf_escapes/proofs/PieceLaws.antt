@@ -1,12 +1,11 @@
 -- Reading a repetition piece by piece, with what the pieces stand for.
-use Rattle.std.proofs.Common.{◌≡◌, ℕ, zero, suc, ◌≤◌, Option, Some, None, List, [], ◌∷◌, ◌++◌, length, refl, ap, ◌∙◌, sym, arith, append_assoc, append-nil, length-append}
+use Rattle.std.proofs.Common.{◌≡◌, ℕ, zero, suc, ◌≤◌, Option, Some, None, List, [], ◌∷◌, ◌++◌, length, refl, ap, ◌∙◌, sym, arith, append_assoc, append-nil, length-append, Bor}
 use Rattle.std.proofs.lemmas.List.{nil_from_length}
 use Rattle.std.specs.Prelude.{IfSome, IfNone}
-use Rattle.std.proofs.Common.{Bor}
 use Rattle.std.specs.Str.{chars}
-use Rattle.bm_term.specs.Text.{FollowsLongest, BeginsWithNone}
+use Rattle.rdf_text.specs.Text.{FollowsLongest, BeginsWithNone}
 use Rattle.std.specs.Option.{option_map, option_map_or}
-use Rattle.bm_term.specs.Repetition.{Star}
+use Rattle.rdf_text.specs.Repetition.{Star}
 use Rattle.rdf_escapes.specs.Pieces.{Step, IsOf, BeginsWith, ArePieces, with_first, pieces_up_to, pieces, values, after_values, GoesForward}
 
 -- what a step takes is a piece of the rule

@@ -2,10 +2,10 @@
 use Rattle.std.proofs.Common.{◌≡◌, ℕ, true, false, ◌==◌, Some, List, [], ◌∷◌, ◌++◌, refl, ap, ◌∙◌, sym, arith, append_assoc}
 use Rattle.std.proofs.lemmas.Bool.Decides.{nat_tests}
 use Rattle.std.proofs.lemmas.Option.{option_and_then_some, some_pair_parts}
-use Rattle.bm_term.specs.Marks.{less_than, greater_than, backslash}
-use Rattle.bm_term.specs.Repetition.{Star}
-use Rattle.bm_term.specs.Text.{after_char}
-use Rattle.bm_term.proofs.TextLemmas.{after_char-some}
+use Rattle.rdf_text.specs.Marks.{less_than, greater_than, backslash}
+use Rattle.rdf_text.specs.Repetition.{Star}
+use Rattle.rdf_text.specs.scanning.Text.{after_char}
+use Rattle.rdf_text.proofs.TextLemmas.{after_char-some}
 use Rattle.rdf_escapes.specs.Iris.{IsIriPiece, IsIriRef}
 use Rattle.rdf_escapes.specs.Strings.{is_quote, IsStringPiece, IsString}
 use Rattle.rdf_escapes.specs.Pieces.{BeginsWith, values, after_values}

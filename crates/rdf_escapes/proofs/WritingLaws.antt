@@ -3,7 +3,7 @@ use Rattle.std.proofs.Common.{◌≡◌, ℕ, Option, Some, None, List, ◌++◌
 use Rattle.std.specs.Prelude.{encode_utf8}
 use Rattle.std.specs.Str.{encode_utf8_all}
 use Rattle.std.proofs.lemmas.Str.{encodes-append}
-use Rattle.bm_term.specs.Canonical.{spelling, escaped}
+use Rattle.rdf_text.specs.Spelling.{spelling, escaped}
 use Rattle.rdf_escapes.specs.Pieces.{values}
 use Rattle.rdf_escapes.specs.Reading.{iri_piece, string_piece}
 use Rattle.rdf_escapes.proofs.CharacterLaws.{iri_values-more, iri_values-none, string_values-more, string_values-none}

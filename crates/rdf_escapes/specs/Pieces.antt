@@ -1,7 +1,7 @@
 -- How a repetition is read from its front: what its pieces stand for, one by one, and what follows the last of them.
 use Rattle.std.specs.Prelude.{◌≡◌, ℕ, zero, suc, ◌<◌, Option, Some, List, [], ◌∷◌, ◌++◌, length}
 use Rattle.std.specs.Option.{option_map_or}
-use Rattle.bm_term.specs.Repetition.{Star}
+use Rattle.rdf_text.specs.Repetition.{Star}
 
 -- a text of the rule, with some value
 abbrev pub IsOf : {V : Type 0} → (List ℕ → V → Type 0) → List ℕ → Type 0

@@ -2,11 +2,10 @@
 -- grammar are in proofs/.
 use Rattle.std.specs.Prelude.{ℕ, ◌+◌, ◌*◌, ◌==◌, if◌then◌else◌, Option, Some, None, List, [], ◌∷◌}
 use Rattle.std.specs.Option.{option_map, option_or}
-use Rattle.bm_term.specs.Classes.{is_scalar, is_hex, is_irichar}
-use Rattle.bm_term.specs.Escapes.{echar_value}
-use Rattle.bm_term.specs.Marks.{less_than, greater_than, backslash}
-use Rattle.bm_term.specs.Reading.{◌>>=◌}
-use Rattle.bm_term.specs.Text.{after_char}
+use Rattle.rdf_text.specs.Classes.{is_scalar, is_hex, is_irichar}
+use Rattle.rdf_text.specs.Spelling.{echar_value}
+use Rattle.rdf_text.specs.Marks.{less_than, greater_than, backslash}
+use Rattle.rdf_text.specs.scanning.Text.{◌>>=◌, after_char}
 use Rattle.rdf_escapes.specs.Escapes.{letter_u, capital_u, hex_value}
 use Rattle.rdf_escapes.specs.Pieces.{Step, values, after_values}
 use Rattle.rdf_escapes.specs.Strings.{is_string_char}

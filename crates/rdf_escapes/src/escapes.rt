@@ -2,14 +2,14 @@
 ghost use Rattle.std.specs.Prelude.{◌≡◌, ◌<◌, ◌^◌, ◌==◌, Option, Some, None, if◌then◌else◌, IfSome};
 ghost use Rattle.std.specs.Option.{option_map};
 ghost use Rattle.std.specs.Str.{chars, IsUtf8};
-ghost use Rattle.bm_term.specs.Classes.{is_hex};
+ghost use Rattle.rdf_text.specs.Classes.{is_hex};
 ghost use Rattle.rdf_escapes.specs.Escapes.{hex_value};
 ghost use Rattle.rdf_escapes.specs.Reading.{hex_digit, four_digits, eight_digits, uchar_number, read_uchar, read_escape};
 
-use bm_term::{echar_value, split_char};
+use rdf_text::{echar_value, split_char};
 
 // HEX: the value of a digit.
-#[tactic(auto, unfolding(crate::specs::Escapes::hex_value, bm_term::specs::Classes::is_hex, bm_term::specs::Classes::is_digit))]
+#[tactic(auto, unfolding(crate::specs::Escapes::hex_value, rdf_text::specs::Classes::is_hex, rdf_text::specs::Classes::is_digit))]
 fn hex_value(c: char) -> Option<u32>
     ensures value { result ≡ (if is_hex c then Some (hex_value c) else None) }
     ensures bound { IfSome result (λ value. value < 16) }

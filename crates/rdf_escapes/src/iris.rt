@@ -2,13 +2,13 @@
 ghost use Rattle.std.specs.Prelude.{◌≡◌, ◌==◌, IfSome, IfNone};
 ghost use Rattle.std.specs.Option.{option_map};
 ghost use Rattle.std.specs.Str.{chars, IsUtf8};
-ghost use Rattle.bm_term.specs.Text.{BeginsWithNone, FollowsLongest};
+ghost use Rattle.rdf_text.specs.Text.{BeginsWithNone, FollowsLongest};
 ghost use Rattle.rdf_escapes.specs.Iris.{IsIriPiece};
 ghost use Rattle.rdf_escapes.specs.Pieces.{IsOf, BeginsWith, ArePieces, after_values};
 ghost use Rattle.rdf_escapes.specs.Reading.{escaped_irichar, iri_piece};
 
 use crate::escapes::uchar;
-use bm_term::{is_irichar, split_char};
+use rdf_text::{is_irichar, split_char};
 
 // UCHAR in an IRI, behind its backslash: it gives a member of IRICHAR.
 #[tactic(auto, unfolding(crate::specs::Reading::escaped_irichar))]

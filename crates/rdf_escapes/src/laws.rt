@@ -4,7 +4,7 @@ ghost use Rattle.rdf_escapes.specs.Iris.{IsIriPiece, IsIriRef};
 ghost use Rattle.rdf_escapes.specs.Strings.{is_quote, IsStringPiece, IsString};
 ghost use Rattle.std.specs.List.{list_all};
 ghost use Rattle.std.specs.Str.{all_scalars};
-ghost use Rattle.bm_term.specs.Classes.{is_irichar};
+ghost use Rattle.rdf_text.specs.Classes.{is_irichar};
 ghost use Rattle.rdf_escapes.specs.Pieces.{BeginsWith, values};
 ghost use Rattle.rdf_escapes.specs.Reading.{iri_piece, string_piece, read_iri_ref, read_string};
 

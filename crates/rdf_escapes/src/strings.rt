@@ -2,13 +2,13 @@
 ghost use Rattle.std.specs.Prelude.{◌≡◌, ◌==◌, IfSome, IfNone};
 ghost use Rattle.std.specs.Option.{option_map};
 ghost use Rattle.std.specs.Str.{chars, IsUtf8};
-ghost use Rattle.bm_term.specs.Text.{BeginsWithNone, FollowsLongest};
+ghost use Rattle.rdf_text.specs.Text.{BeginsWithNone, FollowsLongest};
 ghost use Rattle.rdf_escapes.specs.Strings.{is_string_char, IsStringPiece};
 ghost use Rattle.rdf_escapes.specs.Pieces.{IsOf, BeginsWith, ArePieces, after_values};
 ghost use Rattle.rdf_escapes.specs.Reading.{string_piece};
 
 use crate::escapes::escape;
-use bm_term::split_char;
+use rdf_text::split_char;
 
 // Every character but the mark, the backslash, LF and CR.
 #[tactic(auto, unfolding(crate::specs::Strings::is_string_char))]

@@ -1,8 +1,8 @@
 -- The tokens that are read of a source are its tokens.
 use Rattle.std.proofs.Common.{◌≡◌, ℕ, zero, suc, ◌+◌, ◌<◌, ◌≤◌, if◌then◌else◌, List, [], ◌∷◌, ◌++◌, length, refl, ap, ◌∙◌, sym, subst, arith, append-nil, length-append}
 use Rattle.std.specs.Str.{chars, encode_utf8_all}
-use Rattle.bm_term.specs.Text.{before}
-use Rattle.bm_term.proofs.TextLemmas.{before-append}
+use Rattle.rdf_text.specs.scanning.Text.{before}
+use Rattle.rdf_text.proofs.TextLemmas.{before-append}
 use Rattle.query_tokens.specs.Token.{Lexeme}
 use Rattle.query_tokens.specs.Blanks.{AreBlanks, after_blanks}
 use Rattle.query_tokens.specs.Tokens.{BeginsWithToken, IsNextToken, AreTokensFrom, AreTokens}

@@ -2,7 +2,7 @@
 use Rattle.std.specs.Prelude.{◌≡◌, ◌⊎◌, ℕ, zero, suc, ◌+◌, Bool, true, false, if◌then◌else◌, List, [], ◌∷◌, ◌++◌, map, length, Option, Some, None, Result, Ok, Err}
 use Rattle.std.specs.Str.{chars, encode_utf8_all, is_utf8}
 use Rattle.std.specs.Str.Lossy.{utf8_valid_len}
-use Rattle.bm_term.specs.Text.{before}
+use Rattle.rdf_text.specs.scanning.Text.{before}
 use Rattle.query_tokens.specs.Blanks.{after_blanks}
 use Rattle.query_tokens.specs.Scanning.{Read, read_or_bad}
 use Rattle.query_tokens.specs.Token.{Lexeme}

@@ -1,7 +1,7 @@
 use Rattle.std.specs.Prelude.{string_bytes}
 use Rattle.std.specs.Str.{chars}
 use Rattle.bm_term.specs.Canonical.{iri}
-use Rattle.bm_term.specs.Marks.{greater_than, less_than}
+use Rattle.rdf_text.specs.Marks.{greater_than, less_than}
 use Rattle.nt_read.specs.declared.found.Quoted.TheVariants.{Raw}
 use Rattle.nt_read.specs.Found.{iri_of}
 use Rattle.rdf_escapes.specs.Pieces.{values}

@@ -1,7 +1,8 @@
 use Rattle.std.specs.Prelude.{string_bytes}
 use Rattle.std.specs.Str.{chars}
-use Rattle.bm_term.specs.Canonical.{plain, escaped}
-use Rattle.bm_term.specs.Marks.{quotation_mark}
+use Rattle.bm_term.specs.Canonical.{plain}
+use Rattle.rdf_text.specs.Spelling.{escaped}
+use Rattle.rdf_text.specs.Marks.{quotation_mark}
 use Rattle.nt_read.specs.declared.found.Quoted.TheVariants.{Raw}
 use Rattle.nt_read.specs.Found.{lexical_of}
 use Rattle.rdf_escapes.specs.Pieces.{values}

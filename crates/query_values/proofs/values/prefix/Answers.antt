@@ -1,5 +1,5 @@
 use Rattle.std.specs.Str.{chars}
-use Rattle.bm_term.proofs.TextLemmas.{after_run-split}
+use Rattle.rdf_text.proofs.TextLemmas.{after_run-split}
 use Rattle.query_values.specs.Values.{is_no_colon}
 use Rattle.query_values.proofs.values.prefix.Goals as goal
 
