@@ -14,7 +14,9 @@ use Rattle.rdf_text.specs.scanning.Text.{after_first}
 use Rattle.query_tokens.specs.declared.token.TokenKind.{TokenKind}
 use Rattle.query_tokens.specs.declared.token.TokenKind.TheVariants.{Iri, Prefix, Prefixed, Variable, Quoted, Tag, Integer, Decimal, Double, Word, Blank, Sign, Quotes, Bad}
 use Rattle.query_tokens.specs.Token.{IsToken, IsTag, Lexeme}
-use Rattle.query_values.specs.Values.{IsSpelled, between_marks, lexical_of, tag_of, number_type, xsd_boolean, rdf_type}
+use Rattle.query_values.specs.Literals.{xsd_boolean}
+use Rattle.query_values.specs.Iris.{rdf_type}
+use Rattle.query_values.specs.reading.Values.{IsSpelled, between_marks, lexical_of, tag_of, number_type}
 
 pub lexical_characters : (token : Lexeme) → all_scalars (lexical_of token) ≡ true
 unfolding lexical_of
