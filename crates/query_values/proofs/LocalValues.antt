@@ -13,7 +13,7 @@ use Rattle.rdf_text.specs.Repetition.{Star}
 use Rattle.rdf_text.specs.scanning.Text.{before}
 use Rattle.rdf_text.proofs.TextLemmas.{after_run-append, after_run-stop, before-append}
 use Rattle.query_tokens.specs.PrefixedNames.{IsPrefixName, is_local_escape, IsLocalPiece, is_local_first, is_local_inner, IsLocalRest, SpellsLocal}
-use Rattle.query_values.specs.Values.{is_no_colon, is_no_backslash, from_colon}
+use Rattle.query_values.specs.reading.Values.{is_no_colon, is_no_backslash, from_colon}
 
 -- members of a class are other than a character that is none
 others : (p : ℕ → Bool) (d : ℕ) → p d ≡ false → (c : ℕ) → p c ≡ true → (c == d) ≡ false

@@ -22,7 +22,8 @@ use Rattle.query_tokens.specs.PrefixedNames.{IsPrefixName, IsPrefixed, SpellsLoc
 use Rattle.query_tokens.specs.Token.{IsToken, Lexeme}
 use Rattle.query_tokens.specs.Variables.{is_variable_mark}
 use Rattle.query_tokens.specs.declared.token.TokenKind.TheVariants.{Prefixed}
-use Rattle.query_values.specs.Values.{IsSpelled, between_marks, AreIriChars, iri_of, prefix_of, local_of, lexical_of, tag_of, name_of, number_type, xsd_boolean, typed_literal, number_literal, boolean_literal}
+use Rattle.query_values.specs.Literals.{xsd_boolean}
+use Rattle.query_values.specs.reading.Values.{IsSpelled, between_marks, AreIriChars, iri_of, prefix_of, local_of, lexical_of, tag_of, name_of, number_type, typed_literal, number_literal, boolean_literal}
 use Rattle.query_values.proofs.LocalValues.{from_colon-name, before_colon, local_value, local_in_iri}
 use Rattle.query_values.proofs.TermLaws.{lower_characters, other_text}
 use Rattle.query_values.proofs.TokenLaws.{lexical_characters, number_type-irichars, number_type-other, xsd_boolean-irichars, xsd_boolean-other}

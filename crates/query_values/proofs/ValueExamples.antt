@@ -15,7 +15,8 @@ use Rattle.rdf_escapes.specs.scanning.Strings.{string_piece}
 use Rattle.query_tokens.specs.declared.token.TokenKind.{TokenKind}
 use Rattle.query_tokens.specs.declared.token.TokenKind.TheVariants.{Iri, Prefix, Prefixed, Variable, Quoted, Tag, Decimal, Word}
 use Rattle.query_tokens.specs.Token.{Lexeme}
-use Rattle.query_values.specs.Values.{is_no_colon, is_no_backslash, iri_of, prefix_of, local_of, lexical_of, tag_of, name_of, number_type, xsd_boolean, number_literal, boolean_literal}
+use Rattle.query_values.specs.Literals.{xsd_boolean}
+use Rattle.query_values.specs.reading.Values.{is_no_colon, is_no_backslash, iri_of, prefix_of, local_of, lexical_of, tag_of, name_of, number_type, number_literal, boolean_literal}
 use Rattle.query_values.proofs.TokenLaws.{ascii_chars}
 
 abbrev pub token : TokenKind → List ℕ → Lexeme

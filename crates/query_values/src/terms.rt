@@ -5,7 +5,7 @@ ghost use Rattle.bm_term.specs.Canonical.{iri as iri_with, typed, xsd_string, ca
 ghost use Rattle.rdf_text.specs.Spelling.{escaped};
 ghost use Rattle.query_tokens.specs.Token.{shown};
 ghost use Rattle.query_tokens.specs.declared.token.TokenKind.TheVariants as kinds;
-ghost use Rattle.query_values.specs.Values.{IsSpelled, AreIriChars, between_marks, lexical_of, tag_of, number_type, plain_literal, tagged_literal, typed_literal, number_literal, boolean_literal, type_iri};
+ghost use Rattle.query_values.specs.reading.Values.{IsSpelled, AreIriChars, between_marks, lexical_of, tag_of, number_type, plain_literal, tagged_literal, typed_literal, number_literal, boolean_literal, type_iri};
 
 use crate::values::{after_first, text_of};
 use bm_term::{Term, is_xsd_string};
@@ -102,7 +102,7 @@ pub fn boolean_term(alloc: Global, token: Token<'_>) -> Result<Term, AllocError>
 }
 
 // The IRI of a number's datatype.
-#[tactic(auto, unfolding(crate::specs::Values::number_type))]
+#[tactic(auto, unfolding(crate::specs::reading::Values::number_type))]
 fn number_type(kind: TokenKind) -> &'static str
     ensures { result.now ≡ number_type kind }
 {
@@ -145,7 +145,7 @@ fn push_datatype(out: &mut String, datatype: &str) -> Result<(), AllocError>
 }
 
 // Writes the lexical form of a string between quotation marks.
-#[tactic(auto, unfolding(crate::specs::Values::lexical_of))]
+#[tactic(auto, unfolding(crate::specs::reading::Values::lexical_of))]
 fn push_quoted(out: &mut String, string: Token<'_>) -> Result<(), AllocError>
     requires { IsSpelled (shown string) }
     ensures { OnOk result (string_bytes out.new ≡ string_bytes out.old ++ canonical_text (plain_literal (shown string.entry))) }

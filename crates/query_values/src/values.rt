@@ -4,7 +4,7 @@ ghost use Rattle.std.specs.List.{filter};
 ghost use Rattle.std.specs.Str.{chars, encode_utf8_all};
 ghost use Rattle.rdf_text.specs.scanning.Text.{after_first};
 ghost use Rattle.query_tokens.specs.Token.{shown};
-ghost use Rattle.query_values.specs.Values.{IsSpelled, from_colon, is_no_colon, is_no_backslash, iri_of, prefix_of, local_of, prefixed_iri, name_of};
+ghost use Rattle.query_values.specs.reading.Values.{IsSpelled, from_colon, is_no_colon, is_no_backslash, iri_of, prefix_of, local_of, prefixed_iri, name_of};
 
 use rdf_text::{CharClass, after_run, before, split_char};
 use query_tokens::Token;
@@ -18,7 +18,7 @@ struct NoColon;
 impl CharClass for NoColon {
     ghost members = { is_no_colon };
 
-    #[tactic(auto, unfolding(crate::specs::Values::is_no_colon))]
+    #[tactic(auto, unfolding(crate::specs::reading::Values::is_no_colon))]
     fn has(self, c: char) -> bool {
         c != ':'
     }
@@ -53,7 +53,7 @@ fn from_colon(text: &str) -> &str
 
 /// The IRI that an IRI in brackets spells, its escapes undone. The token is one that `tokens` gave and is
 /// not `Bad`; of one of another kind nothing useful is answered. `Err` only where memory runs out.
-#[tactic(auto, unfolding(crate::specs::Values::iri_of))]
+#[tactic(auto, unfolding(crate::specs::reading::Values::iri_of))]
 pub fn iri(alloc: Global, token: Token<'_>) -> Result<String, AllocError>
     requires { IsSpelled (shown token) }
     ensures { IfOk result (λ iri. chars (string_bytes iri) ≡ iri_of (shown token.entry)) }
@@ -65,7 +65,7 @@ pub fn iri(alloc: Global, token: Token<'_>) -> Result<String, AllocError>
 
 /// The prefix of a prefixed name, or of a prefix with its colon: what stands before the colon. The token
 /// is one that `tokens` gave and is not `Bad`; of one of another kind nothing useful is answered.
-#[tactic(auto, unfolding(crate::specs::Values::prefix_of))]
+#[tactic(auto, unfolding(crate::specs::reading::Values::prefix_of))]
 pub fn prefix<'a>(token: Token<'a>) -> &'a str
     requires { IsSpelled (shown token) }
     ensures { chars result.now ≡ prefix_of (shown token.entry) }
@@ -77,7 +77,7 @@ pub fn prefix<'a>(token: Token<'a>) -> &'a str
 /// The IRI of a prefixed name: the namespace of its prefix, and the local name, in which a backslash
 /// and what stands behind it are that alone. The token is one that `tokens` gave and is not `Bad`; of one
 /// of another kind nothing useful is answered. `Err` only where memory runs out.
-#[tactic(auto, unfolding(crate::specs::Values::local_of))]
+#[tactic(auto, unfolding(crate::specs::reading::Values::local_of))]
 pub fn prefixed_iri(alloc: Global, namespace: &str, token: Token<'_>) -> Result<String, AllocError>
     requires { IsSpelled (shown token) }
     ensures { IfOk result (λ iri. chars (string_bytes iri) ≡ prefixed_iri (chars namespace.now) (shown token.entry)) }
@@ -108,7 +108,7 @@ fn push_no_backslash(out: &mut String, c: char) -> Result<(), AllocError>
     Ok(())
 }
 
-#[tactic(auto, unfolding(crate::specs::Values::is_no_backslash))]
+#[tactic(auto, unfolding(crate::specs::reading::Values::is_no_backslash))]
 fn is_no_backslash(c: char) -> bool
     ensures { result ≡ is_no_backslash c }
 {
@@ -117,7 +117,7 @@ fn is_no_backslash(c: char) -> bool
 
 /// The bytes of a variable's name, without its mark. Of a token of another kind nothing useful is
 /// answered.
-#[tactic(auto, unfolding(crate::specs::Values::name_of))]
+#[tactic(auto, unfolding(crate::specs::reading::Values::name_of))]
 pub fn variable_name<'a>(token: Token<'a>) -> &'a [u8]
     ensures { result.now ≡ name_of (shown token.entry) }
 {

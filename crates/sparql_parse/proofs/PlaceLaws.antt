@@ -7,8 +7,8 @@ use Rattle.rdf_text.specs.Classes.{is_irichar}
 use Rattle.query_tokens.specs.Token.{Lexeme}
 use Rattle.query_tokens.specs.declared.token.TokenKind.{TokenKind}
 use Rattle.query_tokens.specs.declared.token.TokenKind.TheVariants as kinds
-use Rattle.query_values.specs.Values.{AreIriChars, IsSpelled, iri_of, local_of, prefixed_iri}
-use Rattle.sparql_parse.specs.Meaning.{Scope, iri_of_kind, iri_in}
+use Rattle.query_values.specs.reading.Values.{AreIriChars, IsSpelled, iri_of, local_of, prefixed_iri}
+use Rattle.sparql_parse.specs.computed.Meaning.{Scope, iri_of_kind, iri_in}
 use Rattle.query_values.proofs.SpelledValues.{local_of-irichars}
 
 pub ok_irichars : {A E : Type 0} (f : A → List ℕ) (result : Result A E) (is : List ℕ) → AreIriChars is → IfOk result (λ a. f a ≡ is) → IfOk result (λ a. AreIriChars (f a))

@@ -11,7 +11,7 @@ use Rattle.query_tokens.specs.scanning.Tokens.{scan_or_bad}
 use Rattle.query_tokens.proofs.BlankRuns.{blanks-split}
 use Rattle.query_tokens.proofs.TokenLists.{scan_or_bad-stands, blanks_longest}
 use Rattle.query_tokens.proofs.OneList.{one_list}
-use Rattle.sparql_parse.specs.Reading.{is_nothing, token_before, tokens_from, tokens_read}
+use Rattle.sparql_parse.specs.computed.Reading.{is_nothing, token_before, tokens_from, tokens_read}
 
 abbrev token_at : ℕ → List ℕ → Lexeme
 token_at at whole = token_before (at + length (encode_utf8_all (before whole (after_blanks whole)))) (after_blanks whole) (scan_or_bad (after_blanks whole))

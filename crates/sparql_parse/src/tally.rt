@@ -1,8 +1,8 @@
 // The limits of a query, but those of its names.
 ghost use Rattle.std.specs.Prelude.{◌≡◌, ◌≤◌};
 ghost use Rattle.alg_model.specs.Limits.{max_triple_patterns, max_optionals, max_groups};
-ghost use Rattle.sparql_parse.specs.Faults.{limit_among};
-ghost use Rattle.sparql_parse.specs.Naming.{counts_with, tally_behind};
+ghost use Rattle.sparql_parse.specs.computed.Faults.{limit_among};
+ghost use Rattle.sparql_parse.specs.computed.Naming.{counts_with, tally_after};
 
 use crate::fault::QueryFault;
 use alg_model::{MAX_GROUPS, MAX_OPEN_GROUPS, MAX_OPTIONALS, MAX_TRIPLE_PATTERNS, MAX_VARIABLES};
@@ -22,7 +22,7 @@ impl Tally {
         requires objects { self.objects ≤ max_triple_patterns }
         requires optionals { self.optionals ≤ max_optionals }
         requires groups { self.groups ≤ max_groups }
-        ensures { result ≡ tally_behind self role }
+        ensures { result ≡ tally_after self role }
     {
         let mut tally = self;
         match role {

@@ -4,7 +4,7 @@ use Rattle.std.specs.Str.{chars, encode_utf8_all}
 use Rattle.rdf_text.specs.Spelling.{escaped}
 use Rattle.rdf_text.specs.Marks.{quotation_mark}
 use Rattle.query_tokens.specs.Token.{shown}
-use Rattle.query_values.specs.Values.{between_marks, lexical_of}
+use Rattle.query_values.specs.reading.Values.{between_marks, lexical_of}
 use Rattle.bm_term.proofs.WrittenTerms.{pushed_marked}
 use Rattle.query_values.proofs.terms.push_quoted.Goals as goal
 

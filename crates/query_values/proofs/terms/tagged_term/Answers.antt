@@ -5,7 +5,7 @@ use Rattle.std.specs.Str.{chars, encode_utf8_all}
 use Rattle.bm_term.specs.Canonical.{canonical_text}
 use Rattle.rdf_text.specs.scanning.Text.{after_first}
 use Rattle.query_tokens.specs.Token.{shown}
-use Rattle.query_values.specs.Values.{lexical_of, tag_of, plain_literal, tagged_literal}
+use Rattle.query_values.specs.reading.Values.{lexical_of, tag_of, plain_literal, tagged_literal}
 use Rattle.bm_term.proofs.WrittenTerms.{tagged_bytes}
 use Rattle.query_values.proofs.TermLaws.{is_canonical}
 use Rattle.query_values.proofs.TokenLaws.{lexical_characters, tag_of-lower}

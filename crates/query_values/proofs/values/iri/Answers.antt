@@ -5,7 +5,7 @@ use Rattle.rdf_escapes.specs.scanning.Pieces.{values}
 use Rattle.rdf_escapes.specs.scanning.Iris.{iri_piece}
 use Rattle.rdf_escapes.proofs.Members.{iri_values-irichars, irichars_are_characters}
 use Rattle.rdf_text.specs.scanning.Text.{after_first}
-use Rattle.query_values.specs.Values.{iri_of}
+use Rattle.query_values.specs.reading.Values.{iri_of}
 use Rattle.query_values.proofs.values.iri.Goals as goal
 
 pub returns : goal.returns

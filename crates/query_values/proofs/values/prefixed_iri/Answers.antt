@@ -3,7 +3,7 @@ use Rattle.std.proofs.lemmas.Str.{chars-append, chars-encodes, scalars-chars}
 use Rattle.std.specs.List.{filter}
 use Rattle.std.specs.Str.{chars, encode_utf8_all}
 use Rattle.rdf_text.specs.scanning.Text.{after_first}
-use Rattle.query_values.specs.Values.{from_colon, is_no_backslash, local_of}
+use Rattle.query_values.specs.reading.Values.{from_colon, is_no_backslash, local_of}
 use Rattle.query_values.proofs.TermLaws.{some_characters}
 use Rattle.query_values.proofs.values.prefixed_iri.Goals as goal
 

@@ -1,18 +1,19 @@
--- The second layer of names and limits: what is kept of a query behind its tokens, read one by one.
+-- Carries proofs only: the names, the declarations and the counts of a query after its tokens, read one by one.
 use Rattle.std.specs.Prelude.{ℕ, ◌+◌, ◌≤◌, Bool, false, not, if◌then◌else◌, List, length, Option}
 use Rattle.std.specs.List.{list_any}
 use Rattle.query_tokens.specs.Token.{Lexeme}
 use Rattle.query_grammar.specs.declared.terminal.Terminal.{Terminal}
 use Rattle.query_grammar.specs.declared.terminal.Terminal.TheVariants as terminals
-use Rattle.query_values.specs.Values.{name_of}
+use Rattle.query_values.specs.reading.Values.{name_of}
 use Rattle.alg_model.specs.Limits.{max_variables, max_triple_patterns, max_optionals, max_groups}
 use Rattle.sparql_parse.specs.declared.fault.QueryFault.{QueryFault}
 use Rattle.sparql_parse.specs.declared.tally.Tally.{Tally}
 use Rattle.query_grammar.specs.declared.syntax.Role.{Role}
 use Rattle.query_grammar.specs.Terminals.{terminal_of}
 use Rattle.query_grammar.specs.Roles.{Labelled, count_of, is_open}
-use Rattle.sparql_parse.specs.Names.{Declarations, is_text, names_of, names_behind, declarations_of, declarations_behind}
-use Rattle.sparql_parse.specs.Faults.{is_object, is_optional, Counts, fault_among}
+use Rattle.sparql_parse.specs.computed.Names.{Declarations, is_text, names_of, names_after, declarations_of, declarations_after}
+use Rattle.sparql_parse.specs.Faults.{is_object, is_optional}
+use Rattle.sparql_parse.specs.computed.Faults.{Counts, fault_among}
 
 -- how many objects, OPTIONALs and groups there are
 abbrev pub tally_of : List Labelled → Tally
@@ -27,8 +28,8 @@ abbrev pub one_more : (Role → Bool) → ℕ → Role → ℕ
 one_more is_such n role = if is_such role then n + 1 else n
 
 -- with one token more, in this role
-abbrev pub tally_behind : Tally → Role → Tally
-tally_behind t role = record {
+abbrev pub tally_after : Tally → Role → Tally
+tally_after t role = record {
   objects = one_more is_object t.objects role;
   optionals = one_more is_optional t.optionals role;
   groups = one_more is_open t.groups role;
@@ -48,17 +49,17 @@ abbrev pub kept_of : List Labelled → Kept
 kept_of labelled = record { names = names_of labelled; declarations = declarations_of labelled; tally = tally_of labelled }
 
 -- behind one token more
-abbrev pub kept_behind : Kept → Labelled → Kept
-kept_behind k l = record {
-  names = names_behind k.names (terminal_of l.token) l.token;
-  declarations = declarations_behind k.declarations l.role l.token;
-  tally = tally_behind k.tally l.role;
+abbrev pub kept_after : Kept → Labelled → Kept
+kept_after k l = record {
+  names = names_after k.names (terminal_of l.token) l.token;
+  declarations = declarations_after k.declarations l.role l.token;
+  tally = tally_after k.tally l.role;
 }
 
 -- the fault of a token behind which so many groups are open
-unfoldable pub fault_behind : Kept → ℕ → Labelled → Option QueryFault
-fault_behind k depth l =
-    let behind = kept_behind k l in
+unfoldable pub fault_after : Kept → ℕ → Labelled → Option QueryFault
+fault_after k depth l =
+    let behind = kept_after k l in
     fault_among k.declarations.namespaces l (counts_with (length behind.names) behind.tally depth)
 
 -- the limits are kept

@@ -1,10 +1,10 @@
--- Declarations of prefixes as the code keeps them.
+-- Carries proofs only: declarations of prefixes as the code keeps them.
 use Rattle.std.specs.Prelude.{string_bytes}
 use Rattle.std.specs.Str.{chars, IsUtf8}
 use Rattle.sparql_parse.specs.declared.namespaces.Namespace.{Namespace}
-use Rattle.query_values.specs.Values.{AreIriChars}
-use Rattle.sparql_parse.specs.Names.{namespace_with}
-use Rattle.sparql_parse.specs.Names as names
+use Rattle.query_values.specs.reading.Values.{AreIriChars}
+use Rattle.sparql_parse.specs.computed.Names.{namespace_with}
+use Rattle.sparql_parse.specs.computed.Names as names
 
 -- a declaration, in characters
 abbrev pub declared : Namespace → names.Namespace

@@ -1,4 +1,4 @@
--- What the code has read, as the second layer's.
+-- Carries proofs only: what the code has read, as it is computed.
 use Rattle.std.specs.Prelude.{◌≡◌, ◌⊎◌, ◌≤◌, All, List, map, Some}
 use Rattle.query_tokens.specs.Token.{Lexeme}
 use Rattle.query_tokens.specs.declared.token.TokenKind.TheVariants as kinds
@@ -7,19 +7,15 @@ use Rattle.query_grammar.specs.Expecting.{Reading, read_tokens, start}
 use Rattle.query_grammar.specs.declared.expect.State.{State}
 use Rattle.alg_model.specs.Limits.{max_open_groups}
 use Rattle.sparql_parse.specs.declared.query.Reader.{Reader}
-use Rattle.sparql_parse.specs.Builds.{labelled_in}
-use Rattle.sparql_parse.specs.Naming.{Kept, kept_of, IsWithin}
-use Rattle.query_values.specs.Values.{IsSpelled}
+use Rattle.sparql_parse.specs.held.Builds.{labelled_in}
+use Rattle.sparql_parse.specs.computed.Naming.{Kept, kept_of, IsWithin}
+use Rattle.query_values.specs.reading.Values.{IsSpelled}
 
 abbrev pub labels_in : Reader → List Labelled
 labels_in r = map labelled_in r.tokens.items
 
 abbrev pub reading_in : Reader → Reading
 reading_in r = record { labelled = labels_in r; state = r.state }
-
--- a token is spelled, or bad
-abbrev pub IsSpelledOrBad : Lexeme → Type 0
-IsSpelledOrBad token = (token.kind ≡ kinds.Bad) ⊎ IsSpelled token
 
 -- what is kept is that of the tokens that are read
 pub record IsKeptOf (labelled : List Labelled) (state : State) (kept : Kept) : Type 0 where

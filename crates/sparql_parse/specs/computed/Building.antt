@@ -1,5 +1,5 @@
--- The second layer of the translation: what is built of a query behind its tokens, read one by one in their roles.
--- All that counts is which groups are open, and the triple pattern that is read.
+-- Carries proofs only: what is built of a query after its tokens, read one by one in their roles. All that counts is which
+-- groups are open, and the triple pattern that is read.
 use Rattle.std.specs.Prelude.{◌≡◌, ℕ, ◌+◌, Bool, true, false, if◌then◌else◌, List, [], ◌∷◌, ◌++◌, fold, codes, Option, Some, None}
 use Rattle.query_tokens.specs.Token.{Lexeme}
 use Rattle.query_tokens.specs.declared.token.TokenKind.TheVariants as kinds
@@ -12,8 +12,9 @@ use Rattle.query_grammar.specs.declared.syntax.Role.TheVariants as roles
 use Rattle.query_grammar.specs.Terminals.{terminal_of}
 use Rattle.query_grammar.specs.Roles.{Labelled}
 use Rattle.query_grammar.specs.Tree.{Syntax, Node, VariableNode, IriNode, StringNode, TaggedNode, TypedNode, NumberNode, BooleanNode, TypeNode}
-use Rattle.query_values.specs.Values.{name_of}
-use Rattle.sparql_parse.specs.Meaning.{Scope, NodeTriple, place_of, number_of, with_number, each_first, pattern_of, columns_of}
+use Rattle.query_values.specs.reading.Values.{name_of}
+use Rattle.sparql_parse.specs.computed.Meaning.{Scope, place_of, number_of, with_number, each_first, pattern_of, columns_of}
+use Rattle.sparql_parse.specs.Translation.{NodeTriple}
 
 -- the node that begins with a token
 abbrev pub node_of : Terminal → Lexeme → Node
@@ -190,11 +191,11 @@ start = record {
 }
 
 -- the columns: all variables of the pattern, or those of SELECT
-abbrev pub columns_behind : Algebra → Head → List ℕ
-columns_behind pattern head = if head.all then each_first (vars_of pattern) else head.columns
+abbrev pub columns_after : Algebra → Head → List ℕ
+columns_after pattern head = if head.all then each_first (vars_of pattern) else head.columns
 
 -- what is built is what a syntax tree means
 pub record IsBuilt (scope : Scope) (tree : Syntax) (s : State) : Type 0 where
   pub pattern : s.body.whole ≡ pattern_of scope tree.group
-  pub columns : columns_behind s.body.whole s.head ≡ columns_of scope s.body.whole tree.columns
+  pub columns : columns_after s.body.whole s.head ≡ columns_of scope s.body.whole tree.columns
   pub distinct : s.head.distinct ≡ tree.distinct

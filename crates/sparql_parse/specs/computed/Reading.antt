@@ -1,4 +1,4 @@
--- The second layer of the whole: the query that a text denotes, or its fault, as a function that reads tokens one by one.
+-- Carries proofs only: the query that a text denotes, or its fault, as a function that reads tokens one by one.
 use Rattle.std.specs.Prelude.{◌≡◌, ◌⊎◌, ℕ, zero, suc, ◌+◌, Bool, true, false, if◌then◌else◌, List, [], ◌∷◌, ◌++◌, map, length, Option, Some, None, Result, Ok, Err}
 use Rattle.std.specs.Str.{chars, encode_utf8_all, is_utf8}
 use Rattle.std.specs.Str.Lossy.{utf8_valid_len}
@@ -18,11 +18,12 @@ use Rattle.alg_model.specs.Query.{AbstractQuery}
 use Rattle.alg_model.specs.declared.var.Var.{Var}
 use Rattle.sparql_parse.specs.declared.fault.QueryFault.{QueryFault}
 use Rattle.sparql_parse.specs.declared.fault.QueryFault.TheVariants as faults
-use Rattle.sparql_parse.specs.Names.{names_of}
-use Rattle.sparql_parse.specs.Faults.{fault_of}
-use Rattle.sparql_parse.specs.Building.{built, columns_behind}
-use Rattle.sparql_parse.specs.Building as building
-use Rattle.sparql_parse.specs.Denotes.{word_fault, scope_of}
+use Rattle.sparql_parse.specs.computed.Names.{names_of}
+use Rattle.sparql_parse.specs.computed.Faults.{fault_of}
+use Rattle.sparql_parse.specs.computed.Building.{built, columns_after}
+use Rattle.sparql_parse.specs.computed.Building as building
+use Rattle.sparql_parse.specs.Denotes.{word_fault}
+use Rattle.sparql_parse.specs.computed.Meaning.{scope_of}
 
 -- no text at all
 abbrev pub is_nothing : List ℕ → Bool
@@ -82,7 +83,7 @@ var_of n = record { 0 = n }
 unfoldable pub query_of : List Labelled → AbstractQuery
 query_of labelled =
     let s = built (scope_of labelled) building.start labelled in
-    record { names = names_of labelled; pattern = s.body.whole; columns = map var_of (columns_behind s.body.whole s.head); distinct = s.head.distinct }
+    record { names = names_of labelled; pattern = s.body.whole; columns = map var_of (columns_after s.body.whole s.head); distinct = s.head.distinct }
 
 -- at the end of the text nothing more may be expected
 abbrev pub is_end : Expect → Bool

@@ -1,7 +1,5 @@
--- What a syntax tree means: triple patterns, and the translation of groups to the algebra.
--- SPARQL 1.1 Query, sections 4.1, 4.2 and 18.2.2.
-use Rattle.std.specs.Prelude.{ℕ, ◌+◌, List, [], ◌∷◌, ◌++◌, map, length, fold, ◌==◌, if◌then◌else◌, position}
-use Rattle.std.specs.List.{flat_map, list_any}
+-- Carries proofs only: what a syntax tree means, with the numbers of triple patterns counted on the way.
+use Rattle.std.specs.Prelude.{ℕ, ◌+◌, List, [], ◌∷◌, ◌++◌, map, length, ◌==◌, position}
 use Rattle.std.specs.Option.{option_map_or}
 use Rattle.bm_term.specs.Canonical.{RdfTerm, iri, canonical_text}
 use Rattle.query_tokens.specs.Token.{Lexeme}
@@ -12,13 +10,20 @@ use Rattle.alg_model.specs.declared.pattern.Place.TheVariants as places
 use Rattle.alg_model.specs.declared.pattern.TriplePat.{TriplePat}
 use Rattle.alg_model.specs.Pattern.{Algebra, Bgp, Join, LeftJoin, vars_of}
 use Rattle.query_grammar.specs.Tree.{Node, VariableNode, IriNode, StringNode, TaggedNode, TypedNode, NumberNode, BooleanNode, TypeNode, Property, Same, Parts, NoParts, OptionalPart, NestedPart, Group, Columns, AllColumns, Variables}
-use Rattle.sparql_parse.specs.Names.{Namespace, namespace_of, is_text}
-use Rattle.query_values.specs.Values.{iri_of, prefix_of, prefixed_iri, name_of, plain_literal, tagged_literal, typed_literal, number_literal, boolean_literal, type_iri}
+use Rattle.query_grammar.specs.Roles.{Labelled}
+use Rattle.sparql_parse.specs.Names.{with_item, each_once}
+use Rattle.sparql_parse.specs.Translation.{NodeTriple, triples_of_block}
+use Rattle.sparql_parse.specs.computed.Names.{Namespace, namespace_of, is_text, names_of, namespaces_of}
+use Rattle.query_values.specs.reading.Values.{iri_of, prefix_of, prefixed_iri, name_of, plain_literal, tagged_literal, typed_literal, number_literal, boolean_literal, type_iri}
 
--- what names and prefixes stand for in a query
+-- what names and prefixes stand for in a query, as it is computed
 pub record Scope : Type 0 where
   pub names : List (List ℕ)
   pub namespaces : List Namespace
+
+-- the names and the declarations among tokens
+abbrev pub scope_of : List Labelled → Scope
+scope_of labelled = record { names = names_of labelled; namespaces = namespaces_of labelled }
 
 -- the number of a variable: the place of its name
 abbrev pub number_of : List (List ℕ) → List ℕ → ℕ
@@ -51,22 +56,6 @@ place_of scope (TypedNode token datatype) = term (typed_literal token (iri_in sc
 place_of scope (NumberNode token) = term (number_literal token)
 place_of scope (BooleanNode token) = term (boolean_literal token)
 place_of scope (TypeNode token) = term type_iri
-
--- three nodes of a block: ';' repeats the subject, and ',' the subject and the verb
-pub record NodeTriple : Type 0 where
-  pub subject : Node
-  pub verb : Node
-  pub object : Node
-
-abbrev pub triples_of_property : Node → Property → List NodeTriple
-triples_of_property subject property =
-    map (λ object. record { subject = subject; verb = property.verb; object = object }) property.objects
-
-abbrev pub triples_of_same : Same → List NodeTriple
-triples_of_same same = flat_map (triples_of_property same.subject) same.properties
-
-abbrev pub triples_of_block : List Same → List NodeTriple
-triples_of_block block = flat_map triples_of_same block
 
 -- triple patterns, of which the first has this number
 abbrev pub patterns_from : Scope → ℕ → List NodeTriple → List TriplePat
@@ -108,11 +97,11 @@ module _ (scope : Scope) where
 
 -- a number at the end of some numbers, unless it stands there
 abbrev pub with_number : List ℕ → ℕ → List ℕ
-with_number numbers n = if list_any (λ m. m == n) numbers then numbers else numbers ++ n ∷ []
+with_number numbers n = with_item ◌==◌ numbers n
 
 -- numbers, each once, in the order in which they first occur
 abbrev pub each_first : List ℕ → List ℕ
-each_first numbers = fold with_number [] numbers
+each_first numbers = each_once ◌==◌ numbers
 
 -- the columns: all variables of the pattern, in the order in which they first occur in it, or those of SELECT
 abbrev pub columns_of : Scope → Algebra → Columns → List ℕ

@@ -1,11 +1,11 @@
--- Nodes of the code, as the syntax tree's, and the tokens that they may have.
+-- Carries proofs only: nodes of the code, as those of the syntax tree, and the tokens that they may have.
 use Rattle.std.specs.Prelude.{◌≡◌}
 use Rattle.query_tokens.specs.Token.{shown}
 use Rattle.query_tokens.specs.declared.token.TokenKind.TheVariants as kinds
 use Rattle.query_grammar.specs.Tree.{Node, VariableNode, IriNode, StringNode, TaggedNode, TypedNode, NumberNode, BooleanNode, TypeNode}
 use Rattle.sparql_parse.specs.declared.node.Node.{Node as CodeNode}
 use Rattle.sparql_parse.specs.declared.node.Node.TheVariants as nodes
-use Rattle.query_values.specs.Values.{IsSpelled}
+use Rattle.query_values.specs.reading.Values.{IsSpelled}
 
 abbrev pub node_in : CodeNode → Node
 node_in (nodes.Variable token) = VariableNode (shown token)

@@ -1,6 +1,6 @@
--- What tokens stand for: the characters of IRIs, names and literals, and the terms. SPARQL 1.1 Query, sections 4.1 and
--- 19.8. Characters are code points.
-use Rattle.std.specs.Prelude.{ℕ, Bool, ◌==◌, not, IsTrue, codes, List, [], ◌∷◌, ◌++◌, map}
+-- Carries proofs only: what tokens stand for, read from their texts: the characters of IRIs, names and literals, and the
+-- terms. Characters are code points.
+use Rattle.std.specs.Prelude.{◌≡◌, ◌⊎◌, ℕ, Bool, ◌==◌, not, IsTrue, List, [], ◌∷◌, ◌++◌, map}
 use Rattle.std.specs.Char.{to_ascii_lowercase}
 use Rattle.std.specs.List.{filter, list_all}
 use Rattle.std.specs.Str.{chars, IsUtf8}
@@ -12,13 +12,19 @@ use Rattle.rdf_escapes.specs.scanning.Pieces.{values}
 use Rattle.rdf_escapes.specs.scanning.Iris.{iri_piece}
 use Rattle.rdf_escapes.specs.scanning.Strings.{string_piece}
 use Rattle.query_tokens.specs.declared.token.TokenKind.{TokenKind}
-use Rattle.query_tokens.specs.declared.token.TokenKind.TheVariants.{Integer, Decimal}
+use Rattle.query_tokens.specs.declared.token.TokenKind.TheVariants.{Integer, Decimal, Bad}
 use Rattle.query_tokens.specs.Token.{IsToken, Lexeme}
+use Rattle.query_values.specs.Iris.{rdf_type}
+use Rattle.query_values.specs.Literals.{xsd_integer, xsd_decimal, xsd_double, xsd_boolean}
 
 -- the token's bytes are a text of the rule of its kind
 pub record IsSpelled (token : Lexeme) : Type 0 where
   pub utf8 : IsUtf8 token.text
   pub rule : IsToken token.kind (chars token.text)
+
+-- a token is spelled, or bad
+abbrev pub IsSpelledOrBad : Lexeme → Type 0
+IsSpelledOrBad token = (token.kind ≡ Bad) ⊎ IsSpelled token
 
 -- the characters that an IRI in brackets spells, its escapes undone
 unfoldable pub iri_of : Lexeme → List ℕ
@@ -79,23 +85,17 @@ typed_literal string datatype = literal_of (lexical_of string) datatype
 
 -- the datatype of a number
 unfoldable pub number_type : TokenKind → List ℕ
-number_type Integer = codes "http://www.w3.org/2001/XMLSchema#integer"
-number_type Decimal = codes "http://www.w3.org/2001/XMLSchema#decimal"
-number_type _ = codes "http://www.w3.org/2001/XMLSchema#double"
+number_type Integer = xsd_integer
+number_type Decimal = xsd_decimal
+number_type _ = xsd_double
 
 -- a number: the text of the token, with the datatype of its kind
 abbrev pub number_literal : Lexeme → RdfTerm
 number_literal token = typed (chars token.text) (number_type token.kind)
 
-unfoldable pub xsd_boolean : List ℕ
-xsd_boolean = codes "http://www.w3.org/2001/XMLSchema#boolean"
-
 -- `true` and `false`, which are written without case: in lower case
 abbrev pub boolean_literal : Lexeme → RdfTerm
 boolean_literal token = typed (map to_ascii_lowercase (chars token.text)) xsd_boolean
-
-unfoldable pub rdf_type : List ℕ
-rdf_type = codes "http://www.w3.org/1999/02/22-rdf-syntax-ns#type"
 
 -- what the word `a` stands for
 abbrev pub type_iri : RdfTerm

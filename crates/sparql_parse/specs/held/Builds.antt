@@ -1,4 +1,4 @@
--- What is built by the code, as the second layer's, and the triple pattern that is read.
+-- Carries proofs only: what is built by the code, as it is computed, and the triple pattern that is read.
 use Rattle.std.specs.Prelude.{◌≡◌, map, Option, Some, None}
 use Rattle.std.specs.Option.{option_map}
 use Rattle.query_tokens.specs.Token.{shown}
@@ -8,10 +8,10 @@ use Rattle.query_grammar.specs.Tree.{Node, Syntax}
 use Rattle.sparql_parse.specs.declared.build.Builder.{Builder}
 use Rattle.sparql_parse.specs.declared.build.Translation.{Translation}
 use Rattle.sparql_parse.specs.declared.build.ReadToken.{ReadToken}
-use Rattle.sparql_parse.specs.Meaning.{Scope, pattern_of, columns_of}
-use Rattle.sparql_parse.specs.Building.{State}
-use Rattle.sparql_parse.specs.Groups.{body_in}
-use Rattle.sparql_parse.specs.Nodes.{IsSound, node_in}
+use Rattle.sparql_parse.specs.computed.Meaning.{Scope, pattern_of, columns_of}
+use Rattle.sparql_parse.specs.computed.Building.{State}
+use Rattle.sparql_parse.specs.held.Groups.{body_in}
+use Rattle.sparql_parse.specs.held.Nodes.{IsSound, node_in}
 
 abbrev pub state_in : Builder → State
 state_in b = record {
