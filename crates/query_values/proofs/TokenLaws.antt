@@ -13,7 +13,9 @@ use Rattle.rdf_escapes.proofs.Members.{string_values-characters}
 use Rattle.rdf_text.specs.scanning.Text.{after_first}
 use Rattle.query_tokens.specs.declared.token.TokenKind.{TokenKind}
 use Rattle.query_tokens.specs.declared.token.TokenKind.TheVariants.{Iri, Prefix, Prefixed, Variable, Quoted, Tag, Integer, Decimal, Double, Word, Blank, Sign, Quotes, Bad}
-use Rattle.query_tokens.specs.Token.{IsToken, IsTag, Lexeme}
+use Rattle.rdf_text.specs.Names.{IsLangtag}
+use Rattle.rdf_text.specs.Text.{IsOf}
+use Rattle.query_tokens.specs.Token.{IsToken, Lexeme}
 use Rattle.query_values.specs.Literals.{xsd_boolean}
 use Rattle.query_values.specs.Iris.{rdf_type}
 use Rattle.query_values.specs.reading.Values.{IsSpelled, between_marks, lexical_of, tag_of, number_type}
@@ -27,8 +29,8 @@ lexical_characters token =
     ]
 
 -- a tag, as it stands behind its mark
-pub tag_is_lower : (text : List ℕ) → IsTag text → IsLowerTag (map to_ascii_lowercase (after_first text))
-tag_is_lower text (tag, is, spelled) = rw spelled (IsLowerTag-lowercase tag is)
+pub tag_is_lower : (text : List ℕ) → IsOf IsLangtag text → IsLowerTag (map to_ascii_lowercase (after_first text))
+tag_is_lower text (tag, (is, spelled)) = rw spelled (IsLowerTag-lowercase tag is)
 
 pub tag_of-lower : (token : Lexeme) → IsSpelled token → token.kind ≡ Tag → IsLowerTag (tag_of token)
 unfolding tag_of
