@@ -6,7 +6,7 @@ use Rattle.alg_model.specs.Answers.{answers_of}
 use Rattle.alg_model.specs.Query.{abstract_of}
 use Rattle.nt_read.specs.declared.lines.FeedFault.{FeedFault}
 use Rattle.nt_read.specs.declared.lines.FeedFault.TheVariants as feed_faults
-use Rattle.sparql_parse.specs.Reading.{query_reading, IsMemoryOr}
+use Rattle.sparql_parse.specs.computed.Reading.{query_reading, IsMemoryOr}
 use Rattle.sparql_parse.specs.declared.fault.QueryFault.{QueryFault}
 use Rattle.sparql_parse.specs.declared.fault.QueryFault.TheVariants as query_faults
 use Rattle.bm_top.specs.steps.Decide.{IsDecided, from_data, from_query}

@@ -15,7 +15,7 @@ use Rattle.nt_read.proofs.SpelledTriples.{spelled-triples_of}
 use Rattle.alg_model.specs.Answers.{answers_to}
 use Rattle.alg_model.specs.Query.{AbstractQuery}
 use Rattle.sparql_parse.specs.declared.fault.QueryFault.{QueryFault}
-use Rattle.sparql_parse.specs.Reading.{query_reading}
+use Rattle.sparql_parse.specs.computed.Reading.{query_reading}
 use Rattle.sparql_parse.proofs.DenotingLaws.{reading-denotes, denotes-reading, reading-is_fault, fault-reading}
 use Rattle.bm_world.specs.declared.world.Faults.{Faults}
 use Rattle.bm_world.specs.Meanings.{Files, Meanings}

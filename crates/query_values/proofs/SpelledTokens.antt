@@ -110,8 +110,8 @@ SpellsTag-is token tag s = tag_of-spells token s.written s.spelled ∙ sym s.low
 
 pub tag_of-spelled : (token : Lexeme) → IsSpelled token → token.kind ≡ kinds.Tag → SpellsTag token (tag_of token)
 tag_of-spelled token spelled kind =
-    let (written, is, text) = subst (λ (k : TokenKind). IsToken k (chars token.text)) kind spelled.rule in
-    record { kind = kind; written = written; is_tag = is; spelled = text; lower = tag_of-spells token written text }
+    let (written, is) = subst (λ (k : TokenKind). IsToken k (chars token.text)) kind spelled.rule in
+    record { kind = kind; written = written; is_tag = is.0; spelled = is.1; lower = tag_of-spells token written is.1 }
 
 -- a number
 IsNumberType-is : (kind : TokenKind) (datatype : List ℕ) → IsNumberType kind datatype → datatype ≡ number_type kind

@@ -5,7 +5,7 @@ use Rattle.bm_term.specs.Graph.{graph_of}
 use Rattle.alg_model.specs.Answers.{answers_to}
 use Rattle.alg_model.specs.Query.{AbstractQuery}
 use Rattle.nt_read.specs.scanning.Lines.{first_bad, lines_of, triples_of}
-use Rattle.sparql_parse.specs.Reading.{query_reading}
+use Rattle.sparql_parse.specs.computed.Reading.{query_reading}
 use Rattle.sparql_parse.specs.declared.fault.QueryFault.{QueryFault}
 use Rattle.bm_world.specs.Meanings.{Files}
 use Rattle.bm_top.specs.Command.{Request, ask, request_of}
