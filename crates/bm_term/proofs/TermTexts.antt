@@ -76,7 +76,7 @@ split_iri-again chars rest all =
     let end : after_run is_irichar (chars ++ 62 ∷ rest) ≡ 62 ∷ rest = after_run-append is_irichar chars (62 ∷ rest) all ∙ after_run-stop is_irichar 62 rest no_irichar in
     rw (end, before-append chars (62 ∷ rest)) refl
 
--- what a scan answers is a term, whose text stands in front
+-- what a scan answers is a term, whose text is in front
 pub record Tells (text front : List ℕ) (read : ScannedParts) : Type 0 where
   pub term : RdfTerm
   pub is : IsTerm term

@@ -21,7 +21,7 @@ pub pushed_marked : {A E : Type 0} (result : Result A E) (before first second th
 pushed_marked (Ok u) before first second third body opening closing opens inner closes = marked_bytes before first second third body opening closing opens inner closes
 pushed_marked (Err e) before first second third body opening closing opens inner closes = tt
 
--- what stands after the closing mark of a lexical form
+-- what is after the closing mark of a lexical form
 after_mark : (body tail : List ℕ) → encode_utf8_all (quotation_mark ∷ (body ++ quotation_mark ∷ [])) ++ encode_utf8_all tail ≡ encode_utf8_all (quotation_mark ∷ (body ++ quotation_mark ∷ tail))
 after_mark body tail =
     sym (encodes-append (quotation_mark ∷ (body ++ quotation_mark ∷ [])) tail)

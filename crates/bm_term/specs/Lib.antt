@@ -1,3 +1,5 @@
+pub use Rattle.rdf_text.specs.Classes
+pub use Rattle.rdf_text.specs.Spelling
 pub mod Canonical
 pub mod Graph
 pub mod Kept

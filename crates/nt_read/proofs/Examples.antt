@@ -28,6 +28,6 @@ no_bytes = refl
 second_is_bad : (a b c : List ℕ) → scan_line a ≡ nothing → scan_line b ≡ bad → first_bad_from 1 (a ∷ b ∷ c ∷ []) ≡ Some 2
 second_is_bad a b c first second = rw (first, second) refl
 
--- triples stand in the order of their lines
+-- triples are in the order of their lines
 two_triples : (a b c : List ℕ) (t u : Triple) → scan_line a ≡ spelled t → scan_line b ≡ nothing → scan_line c ≡ spelled u → triples_of (a ∷ b ∷ c ∷ []) ≡ t ∷ u ∷ []
 two_triples a b c t u first second third = rw (first, second, third) refl

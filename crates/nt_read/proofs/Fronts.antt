@@ -47,7 +47,7 @@ good-next n (first ∷ lines) line good here =
 pub good-more : (i : ℕ) (lines : List (List ℕ)) (line : List ℕ) (left : List (List ℕ)) → line ∷ left ≡ drop i lines → first_bad_from 1 (take i lines) ≡ None → is_bad (scan_line line) ≡ false → first_bad_from 1 (take (i + 1) lines) ≡ None
 good-more i lines line left e before here = rw (add-one, take-next i lines line left e) (good-next 1 (take i lines) line before here)
 
--- the first bad line stands after a line that is not bad
+-- the first bad line is after a line that is not bad
 pub bad-more : (n : ℕ) (line : List ℕ) (left : List (List ℕ)) → is_bad (scan_line line) ≡ false → first_bad_from n (line ∷ left) ≡ first_bad_from (n + 1) left
 bad-more n line left here = rw here refl
 

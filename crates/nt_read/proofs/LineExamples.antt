@@ -35,7 +35,7 @@ text_after_the_dot : scan_chars (codes "<urn:a><urn:p><urn:b>.x") ≡ bad
 unfolding scan_chars is_end is_comment_char after_run is_blank scan_statement scan_subject scan_predicate scan_object scan_iri_ref scan_iri_body pieces iri_piece is_irichar is_scalar
 text_after_the_dot = refl
 
--- a line end may not stand in a comment
+-- a line end may not be in a comment
 line_feed_in_a_comment : scan_chars (number_sign ∷ line_feed ∷ []) ≡ bad
 unfolding scan_chars is_end is_comment_char after_run is_blank scan_statement scan_subject scan_iri_ref scan_label
 line_feed_in_a_comment = refl

@@ -69,7 +69,7 @@ scan_string_at text rest lexical t = terminal_read (IsString quotation_mark) (sc
 scan_langtag_at : (text rest tag : List ℕ) → BeginsWithTerminal IsLowerLangtag text tag rest → scan_langtag (after_blanks text) ≡ Some (tag, rest)
 scan_langtag_at text rest tag t = terminal_read IsLowerLangtag scan_langtag langtag-reads text rest tag t
 
--- what stands at a place begins with its mark
+-- what is at a place begins with its mark
 abbrev Begins : ℕ → List ℕ → Type 0
 Begins mark text = (others : List ℕ) × (text ≡ mark ∷ others)
 
@@ -267,7 +267,7 @@ scan_object-node : (text rest : List ℕ) (term : RdfTerm) → scan_node (after_
 unfolding scan_object
 scan_object-node text rest term e = rw e refl
 
--- where a mark stands, the text after white space begins with it
+-- where a mark is, the text after white space begins with it
 mark_stands : (c : ℕ) (cs end rest : List ℕ) → is_blank c ≡ false → BeginsWithTerminal (IsMark (c ∷ cs)) end tt rest → after_blanks end ≡ c ∷ (cs ++ rest)
 mark_stands c cs end rest no_blank t =
     ap after_blanks (t.split ∙ ap (λ xs. t.blanks ++ (xs ++ rest)) t.is)
@@ -354,7 +354,7 @@ end_read text end =
     ∙ ap is_comment_or_nothing (after_run-append is_blank end.blanks end.rest end.are_blanks)
     ∙ comment_read end.rest end.comment
 
--- no subject stands at the end of a line
+-- no subject is at the end of a line
 pub subject_no_end : (text rest : List ℕ) (term : RdfTerm) → scan_subject text ≡ Some (term, rest) → is_end text ≡ false
 unfolding scan_subject is_end
 subject_no_end text rest term e =

@@ -23,7 +23,7 @@ use Rattle.rdf_escapes.proofs.PieceLaws.{passed_to_end}
 use Rattle.rdf_escapes.proofs.CharacterLaws.{iri_piece-forward, iri_piece-over, iri_piece-closed, string_piece-forward, string_piece-over, string_piece-closed}
 use Rattle.rdf_escapes.proofs.SpellingLaws.{iri_ref-again, string-again}
 
--- a run between two marks stands in front of a text
+-- a run between two marks is in front of a text
 pub record BeginsWithRun (p : ℕ → Bool) (opening closing : ℕ) (text rest : List ℕ) : Type 0 where
   pub run : List ℕ
   pub all : list_all p run ≡ true
@@ -119,7 +119,7 @@ string_run_is_canonical text rest begins =
     ∙ ap (λ cs. quotation_mark ∷ (cs ++ quotation_mark ∷ [])) (sym (escaped-raw begins.run begins.all))
     ∙ ap (λ cs. quotation_mark ∷ (escaped cs ++ quotation_mark ∷ [])) (sym (string_run_values text rest begins))
 
--- a label with its mark stands in front of a text
+-- a label with its mark is in front of a text
 pub record BeginsWithLabel (text rest : List ℕ) : Type 0 where
   pub name : List ℕ
   pub has : HasRest text rest

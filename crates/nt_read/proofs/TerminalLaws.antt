@@ -21,7 +21,7 @@ same_pair : {V : Type 0} (v w : V) (xs ys : List ℕ) → v ≡ w → xs ≡ ys 
 same_pair v w xs ys value rest = cc
 
 module _ {V : Type 0} (Rule : List ℕ → V → Type 0) (read : List ℕ → Option (V × List ℕ)) where
-  -- what is read is of the rule; where a text of the rule stands in front, no less is read; a text of the rule has one
+  -- what is read is of the rule; where a text of the rule is in front, no less is read; a text of the rule has one
   -- value; and no text of the rule begins with white space
   pub record Reads : Type 0 where
     -- what is taken is a text of the rule

@@ -1,3 +1,4 @@
+pub use Rattle.bm_term.specs.Triple
 pub mod Feeding
 pub mod Line
 pub mod Lines

@@ -8,7 +8,7 @@ use Rattle.nt_read.specs.Line.{Spells, SpellsNothing, IsBadLine}
 abbrev pub HasNoEnd : List ℕ → Type 0
 HasNoEnd line = All (λ b. (b ≢ line_feed) × (b ≢ carriage_return)) line
 
--- a line end, and what stands after it: LF, CR LF, or a CR after which no LF stands
+-- a line end, and what is after it: LF, CR LF, or a CR with no LF after it
 abbrev pub IsLineEnd : List ℕ → List ℕ → Type 0
 IsLineEnd end after =
     (end ≡ line_feed ∷ []) ⊎ ((end ≡ carriage_return ∷ line_feed ∷ [])

@@ -8,7 +8,7 @@ ghost use Rattle.nt_read.specs.Lines.{AreLines, IsFirstBadLine, SpellTriples};
 ghost use Rattle.nt_read.specs.Feeding.{with_bytes};
 ghost use Rattle.nt_read.specs.declared.lines.FeedFault.{FeedFault};
 
-/// The lines of bytes are those parts of them that line ends stand between, and no other list is.
+/// The lines of bytes are the parts of them between line ends, and no other list is.
 pub fn lines_stand_between_line_ends()
     ensures { (bytes : List ℕ) (lines : List (List ℕ)) → AreLines bytes lines ↔ (lines ≡ lines_of bytes) }
 {}

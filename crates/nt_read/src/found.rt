@@ -1,4 +1,4 @@
-/// An IRIREF or a STRING_LITERAL_QUOTE, as it stands in a line.
+/// An IRIREF or a STRING_LITERAL_QUOTE, as it is in a line.
 #[derive(Clone, Copy)]
 pub(crate) enum FoundText<'a> {
     /// It is its canonical text, marks included.
@@ -7,7 +7,7 @@ pub(crate) enum FoundText<'a> {
     Escaped(&'a str),
 }
 
-/// What stands after the lexical form of a literal.
+/// What is after the lexical form of a literal.
 #[derive(Clone, Copy)]
 pub(crate) enum LiteralTail<'a> {
     Nothing,
@@ -16,7 +16,7 @@ pub(crate) enum LiteralTail<'a> {
     Datatype(FoundText<'a>),
 }
 
-/// A term, as it stands in a line.
+/// A term, as it is in a line.
 #[derive(Clone, Copy)]
 pub(crate) enum FoundTerm<'a> {
     Iri(FoundText<'a>),
@@ -25,7 +25,7 @@ pub(crate) enum FoundTerm<'a> {
     Literal(FoundText<'a>, LiteralTail<'a>),
 }
 
-/// The three terms of a line, as they stand in it.
+/// The three terms of a line, as they are in it.
 #[derive(Clone, Copy)]
 pub(crate) struct FoundTriple<'a> {
     pub subject: FoundTerm<'a>,

@@ -34,11 +34,7 @@ pub enum FeedFault {
 /// the number of the first one: then `into` has taken the triples of the lines before it. After `Memory`
 /// it has taken those of some of these lines. The bytes are not copied.
 #[tactic(auto, using(crate::proofs::Fronts::line_steps), unfolding(crate::specs::scanning::Lines::first_bad))]
-pub fn read_lines<T: Taker>(
-    alloc: Global,
-    bytes: &[u8],
-    into: &mut T,
-) -> Result<(), FeedFault>
+pub fn read_lines<T: Taker>(alloc: Global, bytes: &[u8], into: &mut T) -> Result<(), FeedFault>
     ensures answers { AnswersLines bytes.now result }
     ensures takes { TakesLines bytes.now (T.kept into.old) (T.kept into.new) result }
 {
@@ -71,7 +67,7 @@ fn take_line<T: Taker>(alloc: Global, line: &[u8], into: &mut T) -> Result<(), L
     }
 }
 
-/// The first line, and what stands after its end, if it has one.
+/// The first line, and what is after its end, if it has one.
 #[tactic(auto, using(crate::proofs::Splits::first_line, crate::proofs::Splits::one_line), unfolding(crate::specs::scanning::Lines::lines_of))]
 fn split_line(bytes: &[u8]) -> (&[u8], Option<&[u8]>)
     ensures { lines_of bytes.now ≡ result.0.now ∷ lines_left (option_copied result.1) }
@@ -85,7 +81,7 @@ fn split_line(bytes: &[u8]) -> (&[u8], Option<&[u8]>)
     }
 }
 
-/// What stands after the line end that the bytes begin with.
+/// What is after the line end that the bytes begin with.
 #[tactic(auto, using(crate::proofs::Splits::after_other), unfolding(crate::specs::scanning::Lines::lines_of))]
 fn after_line_end(bytes: &[u8]) -> &[u8]
     requires { is_byte2 line_feed carriage_return (slice_index bytes.now 0) ≡ true }
@@ -103,7 +99,7 @@ fn after_line_end(bytes: &[u8]) -> &[u8]
     }
 }
 
-/// What stands after a line end whose CR stands before the bytes: an LF belongs to it.
+/// What is after a line end whose CR is before the bytes: an LF belongs to it.
 #[tactic(auto, unfolding(crate::specs::scanning::Lines::lines_of))]
 fn after_carriage_return(bytes: &[u8]) -> &[u8]
     ensures { lines_after true bytes.now ≡ lines_of result.now }

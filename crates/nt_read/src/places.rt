@@ -6,7 +6,7 @@ ghost use Rattle.nt_read.specs.Terminals.{is_blank};
 ghost use Rattle.nt_read.specs.scanning.Found.{lexical_of, IsStringText, IsFoundText, term_found};
 ghost use Rattle.nt_read.specs.scanning.Line.{after_blanks, scan_iri, scan_blank, scan_node, scan_subject, scan_predicate, scan_tag, scan_datatype, scan_tail, scan_literal, scan_object, is_end};
 
-use crate::found::{FoundTerm, LiteralTail, FoundText};
+use crate::found::{FoundTerm, FoundText, LiteralTail};
 use crate::terminals::{blank_node_label, iri_ref, langtag, string_literal_quote};
 use rdf_text::{CharClass, CommentChar, after_char, after_run, is_at_end, split_char};
 

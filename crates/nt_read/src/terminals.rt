@@ -10,8 +10,11 @@ ghost use Rattle.nt_read.specs.scanning.Found.{iri_of, lexical_of, label_of, tag
 ghost use Rattle.nt_read.specs.scanning.Terminals.{scan_langtag, scan_label};
 
 use crate::found::FoundText;
-use rdf_text::{Alphanumeric, Letter, NtLabelFirst, NtPnChars, after_char, after_dotted_name, after_irichars, after_language_tag, after_raw_chars, before};
 use rdf_escapes::{after_iri_pieces, after_string_pieces};
+use rdf_text::{
+    Alphanumeric, Letter, NtLabelFirst, NtPnChars, after_char, after_dotted_name, after_irichars,
+    after_language_tag, after_raw_chars, before,
+};
 
 /// IRIREF ::= '<' (IRICHAR | UCHAR)* '>'
 #[tactic(auto, unfolding(rdf_escapes::specs::scanning::Iris::scan_iri_ref))]

@@ -3,10 +3,10 @@ ghost use Rattle.std.specs.Prelude.{◌≡◌, ℕ, List, ◌++◌, IfOk, OnOk, 
 ghost use Rattle.bm_term.specs.Canonical.{iri, plain, tagged, literal_of, IsTerm, canonical_text};
 ghost use Rattle.nt_read.specs.scanning.Found.{iri_of, lexical_of, tag_of, raw_length, IsIriText, IsStringText, IsTailText, IsFoundText, AreFoundTexts, AreTerms, literal_with, term_found, triple_found};
 
-use crate::found::{FoundTerm, FoundTriple, LiteralTail, FoundText};
+use crate::found::{FoundTerm, FoundText, FoundTriple, LiteralTail};
 use bm_term::{Term, Triple};
-use rdf_text::push_lower;
 use rdf_escapes::{push_iri_pieces, push_string_pieces};
+use rdf_text::push_lower;
 use std::alloc::{AllocError, Global};
 
 const XSD_STRING: &str = "<http://www.w3.org/2001/XMLSchema#string>";

@@ -42,7 +42,7 @@ after_sign-digits (d ∷ ds) rest (long, all) =
     let (first, others) = and_parts (is_digit d) (list_all is_digit ds) all in
     rw (no_sign_digit d first) refl
 
--- what stands after the mark of an exponent
+-- what is after the mark of an exponent
 after_signed_digits-sound : (text rest : List ℕ) → after_some is_digit (after_sign text) ≡ Some rest → (front : List ℕ) × IsSigned IsDigits front × (text ≡ front ++ rest) × (length rest < length text)
 after_signed_digits-sound [] rest e = absurd (cc)
 after_signed_digits-sound (c ∷ cs) rest e =
@@ -204,7 +204,7 @@ scan_number-takes (c ∷ cs) found e =
           ] refl h
     ] refl e
 
--- What is read leaves no more than a number that stands in front.
+-- What is read leaves no more than a number that is in front.
 with_exponent-reaches : (kind : TokenKind) (text more : List ℕ) → length text ≤ length more → Reached (Some (with_exponent kind text)) kind more
 with_exponent-reaches kind text more less =
     elim (after_exponent text) as (λ r. after_exponent text ≡ r → Reached (Some (option_map_or (λ rest. (Double, rest)) r (kind, text))) kind more) [

@@ -18,7 +18,7 @@ use Rattle.query_tokens.specs.scanning.PrefixedNames.{after_local, scan_local, a
 use Rattle.query_tokens.proofs.LocalNames.{after_local-sound, after_local-reaches, length-local}
 use Rattle.query_tokens.proofs.Reached.{Takes, Reached, reached_as, reached_past}
 
--- a dotted name ends before a character that may not stand in it
+-- a dotted name ends before a character that may not be in it
 module _ (inner : ℕ → Bool) (d : ℕ) (not_inner : inner d ≡ false) (no_stop : (d == 46) ≡ false) where
   -- a dotted name ends before a character that is no part of it
   dotted_end-stops : (middle : List ℕ) (last : ℕ) (end rest : List ℕ) → list_all (is_dotted inner) middle ≡ true → inner last ≡ true → dotted_end inner end (middle ++ last ∷ d ∷ rest) ≡ d ∷ rest
@@ -94,7 +94,7 @@ scan_name-takes text found e =
           subst (Takes IsNamed text) (same_Some (scan_local rest) found h) (subst (λ xs. Takes IsNamed xs (scan_local rest)) whole taken)
     ] refl e
 
--- What is read leaves no more than what stands in front.
+-- What is read leaves no more than what is in front.
 local-least : (text : List ℕ) → length (scan_local text).1 ≤ length text
 local-least text =
     elim (after_local text) as (λ r. after_local text ≡ r → length (option_map_or {U = TokenKind × List ℕ} (λ rest. (Prefixed, rest)) r (Prefix, text)).1 ≤ length text) [

@@ -45,13 +45,13 @@ longest_token text after kind front e is split = record {
   };
 }
 
--- where nothing is read, no text of any rule stands
+-- where nothing is read, no text of any rule is there
 no_token : (text : List ℕ) → scan_token text ≡ None → BeginsWithNone IsOfSomeRule text
 no_token text e front more (kind, is) split =
     let reached = scan_token-reaches kind front more is in
     cc (ap scan_token split)
 
--- so what is read, or all, is the token that stands at the front of a text
+-- so what is read, or all, is the token that is at the front of a text
 pub record Stands (whole : List ℕ) (found : ScannedToken) : Type 0 where
   pub text : List ℕ
   pub split : whole ≡ text ++ found.1

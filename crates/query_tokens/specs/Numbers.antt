@@ -1,5 +1,5 @@
 -- INTEGER, DECIMAL and DOUBLE, with their signs. SPARQL 1.1 Query, section 19.8.
-use Rattle.std.specs.Prelude.{◌≡◌, ℕ, Bool, ◌||◌, ◌==◌, ◌⊎◌, IsTrue, List, [], ◌∷◌, ◌++◌}
+use Rattle.std.specs.Prelude.{◌≡◌, ℕ, Bool, ◌||◌, ◌==◌, ◌⊎◌, IsTrue, List, ◌∷◌, ◌++◌}
 use Rattle.std.specs.List.{list_all}
 use Rattle.rdf_text.specs.Classes.{is_digit}
 use Rattle.rdf_text.specs.Marks.{plus_sign, hyphen, full_stop, capital_e, letter_e}

@@ -13,7 +13,7 @@ IsPrefixName name = IsDottedName is_pn_chars_base is_sparql_pn_chars name
 abbrev pub IsPrefix : List ℕ → Type 0
 IsPrefix text = (name : List ℕ) × ((name ≡ []) ⊎ IsPrefixName name) × (text ≡ name ++ colon ∷ [])
 
--- the characters that may stand after a backslash in a local name: _ ~ . - ! $ & ' ( ) * + , ; = / ? # @ %
+-- the characters that may be after a backslash in a local name: _ ~ . - ! $ & ' ( ) * + , ; = / ? # @ %
 unfoldable pub is_local_escape : ℕ → Bool
 is_local_escape c =
     c == 0x5F || c == 0x7E || c == 0x2E || c == 0x2D || c == 0x21 || c == 0x24 || c == 0x26 || c == 0x27 || c == 0x28

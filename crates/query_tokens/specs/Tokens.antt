@@ -7,12 +7,12 @@ use Rattle.query_tokens.specs.declared.token.TokenKind.TheVariants.{Bad}
 use Rattle.query_tokens.specs.Token.{IsToken, IsOfSomeRule, Lexeme}
 use Rattle.query_tokens.specs.Blanks.{AreBlanks}
 
--- of all texts of any rule that stand here this is the longest, and of this kind
+-- of all texts of any rule that are here this is the longest, and of this kind
 pub record IsLongestToken (kind : TokenKind) (text after : List ℕ) : Type 0 where
   pub is : IsToken kind text
   pub longest : IsLongest IsOfSomeRule text after
 
--- no text of any rule stands here: what is left of the source is bad
+-- no text of any rule is here: what is left of the source is bad
 pub record IsBadRest (kind : TokenKind) (text after : List ℕ) : Type 0 where
   pub kind_is : kind ≡ Bad
   pub no_token : BeginsWithNone IsOfSomeRule text

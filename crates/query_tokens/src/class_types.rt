@@ -4,7 +4,9 @@ ghost use Rattle.query_tokens.specs.PrefixedNames as names;
 ghost use Rattle.query_tokens.specs.Variables as variables;
 ghost use Rattle.query_tokens.specs.scanning.PrefixedNames as scanned;
 
-use rdf_text::{CharClass, is_digit, is_hex, is_sparql_label_first, is_sparql_pn_chars, is_sparql_pn_chars_u};
+use rdf_text::{
+    CharClass, is_digit, is_hex, is_sparql_label_first, is_sparql_pn_chars, is_sparql_pn_chars_u,
+};
 
 /// `0` to `9`.
 #[derive(Clone, Copy)]
@@ -94,7 +96,7 @@ impl CharClass for LocalInner {
     }
 }
 
-/// What may stand after a backslash in a local name.
+/// What may be after a backslash in a local name.
 #[derive(Clone, Copy)]
 pub(crate) struct LocalEscape;
 

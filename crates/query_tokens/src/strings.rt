@@ -6,8 +6,8 @@ ghost use Rattle.query_tokens.specs.scanning.Strings.{after_string};
 ghost use Rattle.query_tokens.specs.scanning.Tokens.{after_two_more, scan_quoted};
 
 use crate::token::TokenKind;
-use rdf_text::after_char;
 use rdf_escapes::after_string_pieces;
+use rdf_text::after_char;
 
 /// A string, or three marks in a row, of which the first is already read.
 #[tactic(auto, unfolding(crate::specs::scanning::Tokens::scan_quoted))]

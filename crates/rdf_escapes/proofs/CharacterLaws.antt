@@ -84,7 +84,7 @@ pub iri_piece-over : PassesOver iri_piece IsIriPiece
 iri_piece-over front rest c (member, inl raw) = rw raw (iri_piece-raw c rest member)
 iri_piece-over front rest c (member, inr is) = iri_piece-escape front rest c member is
 
--- no character stands at the end of the text, nor at the closing bracket
+-- no character is at the end of the text, nor at the closing bracket
 pub iri_piece-nil : iri_piece [] ≡ None
 unfolding iri_piece
 iri_piece-nil = refl
@@ -173,7 +173,7 @@ pub string_piece-nil : (mark : ℕ) → string_piece mark [] ≡ None
 unfolding string_piece
 string_piece-nil mark = refl
 
--- no character stands at the mark that ends a string
+-- no character is at the mark that ends a string
 no_string_char_is_mark : (mark : ℕ) → is_string_char mark mark ≡ false
 unfolding is_string_char
 no_string_char_is_mark mark = grind (arith, nat_tests)

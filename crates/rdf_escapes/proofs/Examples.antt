@@ -51,7 +51,7 @@ an_iri : scan_iri_ref (codes "<a\\u0062:c> .") ≡ Some (codes "ab:c", codes " .
 unfolding scan_iri_ref scan_iri_body pieces iri_piece escaped_irichar scan_uchar uchar_number four_digits hex_digit hex_value is_digit is_hex is_scalar is_irichar
 an_iri = refl
 
--- a mark may be escaped in a string of either mark, and the other mark stands raw
+-- a mark may be escaped in a string of either mark, and the other mark is raw
 escaped_apostrophe : string_piece quotation_mark (codes "\\'a") ≡ Some (apostrophe, codes "a")
 unfolding string_piece scan_escape echar_value
 escaped_apostrophe = refl

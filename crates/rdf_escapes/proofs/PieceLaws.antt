@@ -121,7 +121,7 @@ module _ (step : Step) (forward : GoesForward step) where
         let made : step (text ++ rest) ≡ Some (v, others ++ rest) = rw (split, append_assoc front others rest) (passes front (others ++ rest) v piece) in
         pieces-more (text ++ rest) (others ++ rest) v made ∙ ap (with_first v) (passed passes vs others rest star)
 
-    -- up to where no piece stands
+    -- up to where no piece is
     pub passed_to_end : PassesOver step P → (vs text rest : List ℕ) → Star P text vs → step rest ≡ None → pieces step (text ++ rest) ≡ (vs, rest)
     passed_to_end passes vs text rest star e =
         passed passes vs text rest star ∙ rw (values-none rest e, after_values-none rest e, append-nil vs) refl

@@ -72,7 +72,7 @@ fn uchar_number(letter: char, text: &str) -> Option<(u32, &str)>
 }
 
 /// `UCHAR`, after its backslash and this letter: the character, and the text after it. `None` where no
-/// such escape stands there, or where its number is no character.
+/// such escape is there, or where its number is no character.
 #[tactic(auto, unfolding(crate::specs::scanning::Escapes::scan_uchar))]
 pub(crate) fn uchar(letter: char, text: &str) -> Option<(char, &str)>
     ensures chars { option_map (λ p. (p.0, chars p.1.now)) result ≡ scan_uchar letter (chars text.now) }
@@ -84,7 +84,7 @@ pub(crate) fn uchar(letter: char, text: &str) -> Option<(char, &str)>
 }
 
 /// `ECHAR | UCHAR`, after the backslash: the character, and the text after it. `None` where no such
-/// escape stands there.
+/// escape is there.
 #[tactic(auto, unfolding(crate::specs::scanning::Escapes::scan_escape))]
 pub(crate) fn escape(text: &str) -> Option<(char, &str)>
     ensures chars { option_map (λ p. (p.0, chars p.1.now)) result ≡ scan_escape (chars text.now) }

@@ -26,7 +26,7 @@ fn escaped_irichar(text: &str) -> Option<(char, &str)>
 }
 
 /// `IRICHAR | UCHAR`: the character of an IRI in front of a text, and the text after it. `None` where
-/// no such character stands there; a `UCHAR` counts only where it gives an `IRICHAR`.
+/// no such character is there; a `UCHAR` counts only where it gives an `IRICHAR`.
 /// N-Triples 1.1, section 7, rule `IRIREF`.
 pub fn iri_piece(text: &str) -> Option<(char, &str)>
     ensures found { IfSome result (λ p. BeginsWith IsIriPiece (chars text.now) p.0 (chars p.1.now)) }

@@ -10,7 +10,7 @@ ghost use Rattle.rdf_escapes.specs.scanning.Pieces.{values};
 ghost use Rattle.rdf_escapes.specs.scanning.Iris.{iri_piece, scan_iri_ref};
 ghost use Rattle.rdf_escapes.specs.scanning.Strings.{string_piece, scan_string};
 
-/// A character of an IRI and one of a string are read where they stand, whatever follows them.
+/// A character of an IRI and one of a string are read where they are, whatever follows them.
 pub fn characters_are_read()
     ensures iri { (front rest : List ℕ) (c : ℕ) → IsIriPiece front c → iri_piece (front ++ rest) ≡ Some (c, rest) }
     ensures string { (mark : ℕ) (front rest : List ℕ) (c : ℕ) → IsStringPiece mark front c →

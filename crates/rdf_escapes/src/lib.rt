@@ -1,6 +1,6 @@
 //! What N-Triples and SPARQL have in common in the texts of IRIs and of strings: their characters, raw
 //! or escaped, with what they stand for. `iri_piece` and `string_piece` read one character from the
-//! front of a text; `after_iri_pieces` and `after_string_pieces` pass over all that stand there;
+//! front of a text; `after_iri_pieces` and `after_string_pieces` pass over all that are there;
 //! `push_iri_pieces` and `push_string_pieces` write what they stand for.
 #![tactic(auto)]
 

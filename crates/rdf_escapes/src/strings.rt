@@ -20,7 +20,7 @@ fn is_string_char(mark: char, c: char) -> bool
 }
 
 /// The character of a string in front of a text, raw or escaped by `ECHAR` or `UCHAR`, and the text
-/// after it. `None` where no such character stands there: neither the mark that ends the string, nor
+/// after it. `None` where no such character is there: neither the mark that ends the string, nor
 /// LF or CR, nor a backslash that begins no escape is one.
 /// N-Triples 1.1, section 7, rule `STRING_LITERAL_QUOTE`; SPARQL 1.1 Query, section 19.8, rules
 /// `STRING_LITERAL1` and `STRING_LITERAL2`.

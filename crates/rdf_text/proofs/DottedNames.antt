@@ -14,7 +14,7 @@ module _ (inner : ℕ → Bool) where
   abbrev SplitsInName : List ℕ → List ℕ → Type 0
   SplitsInName text end = (name : List ℕ) × IsDottedRest inner name × (text ≡ name ++ end)
 
-  -- characters that may stand inside, and then an inner one, belong to the name, whatever follows
+  -- characters that may be inside, and then an inner one, belong to the name, whatever follows
   goes_on : (dots : List ℕ) (c : ℕ) (cs end : List ℕ) → list_all (is_dotted inner) dots ≡ true → inner c ≡ true → SplitsInName cs end → SplitsInName (dots ++ c ∷ cs) end
   goes_on dots c cs end all e (name, inl nothing, split) =
       (dots ++ c ∷ [], inr (dots, c, all, e, refl), rw (split, nothing, append_assoc dots (c ∷ []) end) refl)

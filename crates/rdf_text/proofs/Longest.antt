@@ -13,7 +13,7 @@ module _ (T : List ℕ → Type 0) (after : List ℕ → Option (List ℕ)) wher
   abbrev pub Sound : Type 0
   Sound = (text rest : List ℕ) → after text ≡ Some rest → (front : List ℕ) × T front × (text ≡ front ++ rest)
 
-  -- where a text of the rule stands in front, no less is read
+  -- where a text of the rule is in front, no less is read
   abbrev pub Reaches : Type 0
   Reaches = (front more : List ℕ) → T front → (rest : List ℕ) × (after (front ++ more) ≡ Some rest) × (length rest ≤ length more)
 
@@ -34,7 +34,7 @@ module _ (T : List ℕ → Type 0) (after : List ℕ → Option (List ℕ)) wher
         split = split;
       }
 
-  -- where nothing is read, no text of the rule stands in front
+  -- where nothing is read, no text of the rule is in front
   pub none : Reaches → (text : List ℕ) → after text ≡ None → BeginsWithNone T text
   none reaches text e front more is split =
       let (rest, found, less) = reaches front more is in

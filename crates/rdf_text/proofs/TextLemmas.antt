@@ -1,4 +1,4 @@
--- Runs of characters, and what stands before a rest.
+-- Runs of characters, and what is before a rest.
 use Rattle.std.proofs.Common.{◌≡◌, ℕ, ◌-◌, ◌≤◌, Bool, true, false, ◌==◌, nat_lt, if◌then◌else◌, Some, List, [], ◌∷◌, ◌++◌, length, take, refl, ap, subst, ◌∙◌, sym, arith, length-append}
 use Rattle.std.proofs.Math.Seq.{take-append_seam}
 use Rattle.std.proofs.lemmas.Str.{chars-IsAscii, encodes-IsAscii, chars-nil, encodes-chars, encodes-append, IsCharBoundary-at_seam, IsUtf8-take, chars-append}
@@ -78,7 +78,7 @@ after_some-append p (c ∷ cs) rest (long, all) =
     let (first, others) = and_parts (p c) (list_all p cs) all in
     rw (first, after_run-append p cs rest others) refl
 
--- what stands before a rest, and the rest, are the text
+-- what is before a rest, and the rest, are the text
 pub before-append : (front rest : List ℕ) → before (front ++ rest) rest ≡ front
 before-append front rest =
     let len : length (front ++ rest) - length rest ≡ length front = omega (arith, length-append front rest) in

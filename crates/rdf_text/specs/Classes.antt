@@ -54,7 +54,7 @@ is_sparql_pn_chars c = is_sparql_pn_chars_u c || is_pn_chars_more c
 unfoldable pub is_nt_pn_chars : ℕ → Bool
 is_nt_pn_chars c = is_nt_pn_chars_u c || is_pn_chars_more c
 
--- the marks that may not stand raw in an IRI: " < > \ ^ ` { | }
+-- the marks that may not be raw in an IRI: " < > \ ^ ` { | }
 abbrev pub is_excluded_mark : ℕ → Bool
 is_excluded_mark c =
     c == 0x22 || c == 0x3C || c == 0x3E || c == 0x5C || c == 0x5E || c == 0x60 || c == 0x7B

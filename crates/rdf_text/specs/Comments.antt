@@ -1,4 +1,4 @@
--- Comments, which are the same in N-Triples and in SPARQL. N-Triples 1.1, section 2.1; SPARQL 1.1 Query, section 19.4.
+-- Comments, which are the same in N-Triples and in SPARQL. N-Triples 1.1, sections 2.1 and 7; SPARQL 1.1 Query, section 19.4.
 use Rattle.std.specs.Prelude.{◌≡◌, ℕ, IsTrue, List, ◌∷◌}
 use Rattle.std.specs.List.{list_all}
 use Rattle.rdf_text.specs.Classes.{is_comment_char}

@@ -15,7 +15,7 @@ echar_value letter =
     else (if letter == letter_f then Some form_feed
     else (if letter == quotation_mark || letter == apostrophe || letter == backslash then Some letter else None)))))
 
--- the letter that stands for a character which may not stand raw in a canonical literal, after a backslash
+-- the letter that stands for a character which may not be raw in a canonical literal, after a backslash
 unfoldable pub escape_letter : ℕ → Option ℕ
 escape_letter c =
     if c == quotation_mark then Some quotation_mark

@@ -2,8 +2,8 @@
 ghost use Rattle.rdf_text.specs.Classes as of;
 
 use crate::classes::{
-    is_alphanumeric, is_comment_char, is_letter, is_lower_alphanumeric, is_lower_letter, is_nt_label_first,
-    is_nt_pn_chars, is_pn_chars_base, is_sparql_label_first, is_sparql_pn_chars,
+    is_alphanumeric, is_comment_char, is_letter, is_lower_alphanumeric, is_lower_letter,
+    is_nt_label_first, is_nt_pn_chars, is_pn_chars_base, is_sparql_label_first, is_sparql_pn_chars,
 };
 use crate::text::CharClass;
 

@@ -12,13 +12,13 @@ mod text;
 mod writing;
 
 pub use class_types::{
-    Alphanumeric, CommentChar, Letter, LowerAlphanumeric, LowerLetter, NtLabelFirst, NtPnChars, PnCharsBase,
-    SparqlLabelFirst, SparqlPnChars,
+    Alphanumeric, CommentChar, Letter, LowerAlphanumeric, LowerLetter, NtLabelFirst, NtPnChars,
+    PnCharsBase, SparqlLabelFirst, SparqlPnChars,
 };
 pub use classes::{
-    is_alphanumeric, is_comment_char, is_digit, is_hex, is_irichar, is_letter, is_lower_alphanumeric,
-    is_lower_letter, is_nt_label_first, is_nt_pn_chars, is_nt_pn_chars_u, is_pn_chars_base,
-    is_scalar, is_sparql_label_first, is_sparql_pn_chars, is_sparql_pn_chars_u,
+    is_alphanumeric, is_comment_char, is_digit, is_hex, is_irichar, is_letter,
+    is_lower_alphanumeric, is_lower_letter, is_nt_label_first, is_nt_pn_chars, is_nt_pn_chars_u,
+    is_pn_chars_base, is_scalar, is_sparql_label_first, is_sparql_pn_chars, is_sparql_pn_chars_u,
 };
 pub use names::{after_dotted_name, after_language_tag};
 pub use runs::{after_irichars, after_raw_chars, after_spellings};

@@ -8,8 +8,8 @@ ghost use Rattle.rdf_text.specs.scanning.Spelling.{first_unescaped};
 
 use std::alloc::{AllocError, Global};
 
-/// The letter that stands after a backslash for a character that may not stand raw in a canonical
-/// literal. `None` for any other character: it stands raw.
+/// The letter that is after a backslash for a character that may not be raw in a canonical
+/// literal. `None` for any other character: it is raw.
 #[tactic(auto, unfolding(crate::specs::Spelling::escape_letter))]
 pub fn escape_letter(c: char) -> Option<char>
     ensures { result ≡ escape_letter c }

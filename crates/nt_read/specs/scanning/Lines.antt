@@ -11,8 +11,8 @@ abbrev pub before_first_line : ℕ → List (List ℕ) → List (List ℕ)
 before_first_line b [] = (b ∷ []) ∷ []
 before_first_line b (line ∷ lines) = (b ∷ line) ∷ lines
 
--- The lines of bytes before which a CR stands, or none: an LF right after a CR belongs to the line end before it.
--- The last line is what stands after the last line end, and may be empty.
+-- The lines of bytes with a CR before them, or with none: an LF right after a CR belongs to the line end before it.
+-- The last line follows the last line end, and may be empty.
 abbrev pub lines_after : Bool → List ℕ → List (List ℕ)
 lines_after after_cr [] = [] ∷ []
 lines_after after_cr (b ∷ bytes) =

@@ -3,7 +3,7 @@
 use Rattle.std.specs.Prelude.{ℕ, zero, suc, Option, List, [], ◌∷◌, length}
 use Rattle.std.specs.Option.{option_map_or}
 
--- what stands in front, and what follows it; or that nothing of a rule stands there
+-- what is in front, and what follows it; or that nothing of a rule is there
 abbrev pub Step : Type 0
 Step = List ℕ → Option (ℕ × List ℕ)
 

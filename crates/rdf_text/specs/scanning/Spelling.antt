@@ -3,11 +3,11 @@ use Rattle.std.specs.Prelude.{ℕ, Bool, ◌||◌, ◌==◌, if◌then◌else◌
 use Rattle.rdf_text.specs.Marks.{quotation_mark, backslash, letter_n, letter_r, letter_t}
 use Rattle.rdf_text.specs.Spelling.{escape_letter, escaped_value}
 
--- the letters that may stand after a backslash: " \ n r t
+-- the letters that may be after a backslash: " \ n r t
 unfoldable pub is_escape_letter : ℕ → Bool
 is_escape_letter c = c == quotation_mark || c == backslash || c == letter_n || c == letter_r || c == letter_t
 
--- what follows a letter that may stand after a backslash
+-- what follows a letter that may be after a backslash
 abbrev pub after_escape : List ℕ → Option (List ℕ)
 after_escape [] = None
 after_escape (c ∷ cs) = if is_escape_letter c then Some cs else None
