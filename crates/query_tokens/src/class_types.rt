@@ -4,7 +4,9 @@ ghost use Rattle.query_tokens.specs.Blanks as blanks;
 ghost use Rattle.query_tokens.specs.PrefixedNames as names;
 ghost use Rattle.query_tokens.specs.Variables as variables;
 
-use rdf_text::{CharClass, is_digit, is_hex, is_sparql_label_first, is_sparql_pn_chars, is_sparql_pn_chars_u};
+use rdf_text::{
+    CharClass, is_digit, is_hex, is_sparql_label_first, is_sparql_pn_chars, is_sparql_pn_chars_u,
+};
 
 /// `0` to `9`.
 #[derive(Clone, Copy)]

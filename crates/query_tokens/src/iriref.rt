@@ -4,8 +4,8 @@ ghost use Rattle.std.specs.Option.{option_map};
 ghost use Rattle.std.specs.Str.{chars, IsUtf8};
 ghost use Rattle.query_tokens.specs.Iriref.{after_iri};
 
-use rdf_text::after_char;
 use rdf_escapes::after_iri_pieces;
+use rdf_text::after_char;
 
 // The text after an IRI whose '<' is already read.
 #[tactic(auto, unfolding(crate::specs::Iriref::after_iri))]

@@ -8,7 +8,10 @@ ghost use Rattle.query_tokens.specs.Scanning.{read_or_bad};
 
 use crate::class_types::{FullStop, Hex, LocalEscape, LocalFirst, LocalInner, PrefixChar};
 use crate::token::TokenKind;
-use rdf_text::{CharClass, Letter, PnCharsBase, SparqlPnChars, after_char, after_dotted_name, after_run, after_some, split_char};
+use rdf_text::{
+    CharClass, Letter, PnCharsBase, SparqlPnChars, after_char, after_dotted_name, after_run,
+    after_some, split_char,
+};
 
 // A prefixed name, a prefix that has a name, or a word. No prefix begins where more than `unprefixed`
 // bytes are left.

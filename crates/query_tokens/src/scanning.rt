@@ -11,7 +11,10 @@ use crate::prefixed_names::{read_local, read_name};
 use crate::signs::read_sign;
 use crate::strings::read_quoted;
 use crate::token::TokenKind;
-use rdf_text::{Alphanumeric, Letter, SparqlLabelFirst, SparqlPnChars, after_char, after_dotted_name, after_language_tag, is_digit, is_pn_chars_base, split_char};
+use rdf_text::{
+    Alphanumeric, Letter, SparqlLabelFirst, SparqlPnChars, after_char, after_dotted_name,
+    after_language_tag, is_digit, is_pn_chars_base, split_char,
+};
 
 // The kind of the token that the text begins with, and the text after it; where no token begins, all is
 // bad. No prefix with a name begins where more than `unprefixed` bytes are left.

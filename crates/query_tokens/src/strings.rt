@@ -6,8 +6,8 @@ ghost use Rattle.query_tokens.specs.Strings.{after_string};
 ghost use Rattle.query_tokens.specs.Scanning.{after_two_more, read_quoted};
 
 use crate::token::TokenKind;
-use rdf_text::after_char;
 use rdf_escapes::after_string_pieces;
+use rdf_text::after_char;
 
 // A string, or three marks in a row, of which the first is already read.
 #[tactic(auto, unfolding(crate::specs::Scanning::read_quoted))]

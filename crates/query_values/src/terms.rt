@@ -9,9 +9,9 @@ ghost use Rattle.query_values.specs.reading.Values.{IsSpelled, AreIriChars, betw
 
 use crate::values::{after_first, text_of};
 use bm_term::{Term, is_xsd_string};
-use rdf_text::{push_lower, push_spelling, split_char};
 use query_tokens::{Token, TokenKind};
 use rdf_escapes::push_string_pieces;
+use rdf_text::{push_lower, push_spelling, split_char};
 use std::alloc::{AllocError, Global};
 
 const XSD_BOOLEAN: &str = "http://www.w3.org/2001/XMLSchema#boolean";

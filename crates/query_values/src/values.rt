@@ -6,9 +6,9 @@ ghost use Rattle.rdf_text.specs.scanning.Text.{after_first};
 ghost use Rattle.query_tokens.specs.Token.{shown};
 ghost use Rattle.query_values.specs.reading.Values.{IsSpelled, from_colon, is_no_colon, is_no_backslash, iri_of, prefix_of, local_of, prefixed_iri, name_of};
 
-use rdf_text::{CharClass, after_run, before, split_char};
 use query_tokens::Token;
 use rdf_escapes::push_iri_pieces;
+use rdf_text::{CharClass, after_run, before, split_char};
 use std::alloc::{AllocError, Global};
 
 // Every character but the colon.

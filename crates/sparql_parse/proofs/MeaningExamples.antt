@@ -1,15 +1,14 @@
 -- Worked examples of the rules: groups, columns, names, numbers, and the fault of a token.
-use Rattle.std.proofs.Common.{◌≡◌, ◌≢◌, inr, inl, ℕ, ◌==◌, List, [], ◌∷◌, ◌++◌, length, codes, refl, sym, ap, subst, arith, length-append}
+use Rattle.std.proofs.Common.{◌≡◌, inr, inl, ℕ, ◌==◌, List, [], ◌∷◌, length, codes, refl, sym, ap, subst, arith, length-append}
 use Rattle.std.specs.Str.{chars}
 use Rattle.rdf_text.specs.Classes.{is_sparql_label_first, is_sparql_pn_chars_u, is_pn_chars_base}
-use Rattle.rdf_text.specs.Marks.{colon}
 use Rattle.query_tokens.specs.Marks.{question_mark}
 use Rattle.query_tokens.specs.Token.{Lexeme}
 use Rattle.query_tokens.specs.Variables.{IsVariableName}
 use Rattle.query_tokens.specs.declared.token.TokenKind.{TokenKind}
 use Rattle.query_tokens.specs.declared.token.TokenKind.TheVariants as kinds
 use Rattle.query_grammar.specs.declared.syntax.Role.TheVariants as roles
-use Rattle.query_grammar.specs.Roles.{Labelled, with_role}
+use Rattle.query_grammar.specs.Roles.{with_role}
 use Rattle.query_grammar.specs.Tree.{NoParts, OptionalPart, NestedPart}
 use Rattle.query_values.specs.Iris.{SpellsPrefix}
 use Rattle.query_values.specs.Variables.{SpellsVariable}

@@ -148,12 +148,7 @@ impl Naming {
     }
 
     // Keeps what is to be kept of a token that has no fault.
-    fn keep(
-        &mut self,
-        role: Role,
-        terminal: Terminal,
-        token: Token<'_>,
-    ) -> Result<(), AllocError>
+    fn keep(&mut self, role: Role, terminal: Terminal, token: Token<'_>) -> Result<(), AllocError>
         requires spelled { IsSpelled (shown token) }
         requires terminal { terminal ≡ terminal_of (shown token) }
         requires within { let behind = kept_after self.old (with_role role (shown token)) in IsWithin behind.names behind.tally }

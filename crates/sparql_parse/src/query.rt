@@ -54,7 +54,10 @@ impl<'a> Reader<'a> {
         match next(self.state, terminal) {
             None => Err(grammar_fault(token)),
             Some(step) => {
-                match self.naming.take(step.role, terminal, token, step.state.groups) {
+                match self
+                    .naming
+                    .take(step.role, terminal, token, step.state.groups)
+                {
                     Ok(()) => {}
                     Err(fault) => return Err(fault),
                 }
