@@ -18,7 +18,7 @@ mod token_list;
 mod variables;
 
 pub use laws::{a_source_has_one_list_of_tokens, a_text_is_of_one_kind, each_source_has_tokens};
-pub use source::tokens;
+pub use source::{text_tokens, tokens};
 pub use token::{Token, TokenKind};
 pub use token_list::TokenList;
 

@@ -25,9 +25,17 @@ pub fn tokens<'a>(alloc: Global, text: &'a [u8]) -> Result<TokenList<'a>, AllocE
     ensures slices { IfOk result (All (IsSliceOf text.now)) }
 {
     match str::from_utf8(text) {
-        Ok(source) => Ok(TokenList::of(tokens_of(alloc, source)?)),
+        Ok(source) => text_tokens(alloc, source),
         Err(_) => unreachable!(),
     }
+}
+
+/// The same of a text that is known to be UTF-8, which is not looked at again.
+pub fn text_tokens<'a>(alloc: Global, text: &'a str) -> Result<TokenList<'a>, AllocError>
+    ensures tokens { IfOk result (AreTokens text.now) }
+    ensures slices { IfOk result (All (IsSliceOf text.now)) }
+{
+    Ok(TokenList::of(tokens_of(alloc, text)?))
 }
 
 fn tokens_of<'a>(alloc: Global, source: &'a str) -> Result<Vec<Token<'a>>, AllocError>

@@ -1,5 +1,5 @@
 -- What tokens spell, by the relations of their rules, is what is read of them.
-use Rattle.std.proofs.Common.{◌≡◌, ℕ, true, false, nat_lt, bytes_eq, ◌⊎◌, inl, inr, List, [], ◌∷◌, ◌++◌, map, refl, ap, subst, ◌∙◌, sym, append_assoc, arith}
+use Rattle.std.proofs.Common.{◌≡◌, ℕ, true, nat_lt, ◌⊎◌, inl, inr, List, [], ◌∷◌, ◌++◌, map, refl, ap, subst, ◌∙◌, sym, append_assoc, arith}
 use Rattle.std.proofs.lemmas.Bool.{and_parts}
 use Rattle.std.proofs.lemmas.Bool.Decides.{nat_tests}
 use Rattle.std.proofs.lemmas.Slice.Eq.{bytes_eq-Decides}
@@ -7,16 +7,16 @@ use Rattle.std.proofs.lemmas.Str.{encode_ascii, encodes-chars, chars-encodes, sc
 use Rattle.std.specs.Prelude.{encode_utf8, codes}
 use Rattle.std.specs.Char.{to_ascii_lowercase}
 use Rattle.std.specs.Cmp.Derive.{both_true}
-use Rattle.std.specs.List.{concat, list_all}
-use Rattle.std.specs.Str.{chars, encode_utf8_all, IsUtf8, str_eq_ignore_ascii_case}
+use Rattle.std.specs.List.{list_all}
+use Rattle.std.specs.Str.{chars, encode_utf8_all, str_eq_ignore_ascii_case}
 use lib.Utf8.{scalar, scalars}
 use Rattle.bm_term.specs.Canonical.{RdfTerm, typed}
 use Rattle.rdf_text.specs.Marks.{colon}
 use Rattle.rdf_escapes.specs.Iris.{IsIriRef}
 use Rattle.query_tokens.specs.Strings.{SpellsString}
-use Rattle.query_tokens.specs.PrefixedNames.{IsPrefixed, SpellsLocal}
+use Rattle.query_tokens.specs.PrefixedNames.{IsPrefixed}
 use Rattle.query_tokens.specs.Token.{IsToken, Lexeme}
-use Rattle.query_tokens.specs.Variables.{is_variable_mark, IsVariableName}
+use Rattle.query_tokens.specs.Variables.{IsVariableName}
 use Rattle.query_tokens.specs.declared.token.TokenKind.{TokenKind}
 use Rattle.query_tokens.specs.declared.token.TokenKind.TheVariants as kinds
 use Rattle.query_values.specs.Literals.{xsd_boolean}

@@ -1,5 +1,5 @@
 -- Which query a text denotes, and which fault it has, with the values that are computed of its tokens.
-use Rattle.std.specs.Prelude.{◌≡◌, ℕ, List, [], ◌∷◌, ◌++◌, map, length, Option, Some, None}
+use Rattle.std.specs.Prelude.{◌≡◌, ℕ, List, [], ◌∷◌, ◌++◌, map, length, Some, None}
 use Rattle.std.specs.Str.{IsUtf8, IsValidUpTo}
 use Rattle.query_tokens.specs.Token.{Lexeme}
 use Rattle.query_tokens.specs.Tokens.{AreTokens}

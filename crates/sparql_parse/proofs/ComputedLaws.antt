@@ -3,7 +3,6 @@ use Rattle.std.proofs.Common.{◌≡◌, ◌≢◌, ◌⊎◌, inl, inr, ℕ, su
 use Rattle.std.proofs.lemmas.Str.{IsUtf8-from_is_utf8, is_utf8-from_IsUtf8, utf8_valid_len-IsValidUpTo}
 use Rattle.std.proofs.lemmas.List.{length-map, length-append}
 use Rattle.std.proofs.Math.Seq.{take-append_seam, take-append-add}
-use Rattle.std.specs.Prelude.{IfOk, IfErr, MatchResult}
 use Rattle.std.specs.Str.{IsUtf8, is_utf8}
 use Rattle.std.specs.Str.Lossy.{utf8_valid_len}
 use Rattle.query_tokens.specs.Token.{Lexeme}
@@ -17,13 +16,12 @@ use Rattle.query_grammar.specs.Expecting.{start, ended, next_step, Reading, read
 use Rattle.query_grammar.proofs.Carrying.{Reads, step_of}
 use Rattle.query_grammar.proofs.Runs.{reads-run, run-reads, read-last, read-last-none, reads-split}
 use Rattle.query_grammar.proofs.GrammarLaws.{IsReadToEnd-query, query-run, HasFaultAt-StopsAt, StopsAt-HasFaultAt, is-end}
-use Rattle.alg_model.specs.declared.query.Query.{Query}
-use Rattle.alg_model.specs.Query.{AbstractQuery, abstract_of}
+use Rattle.alg_model.specs.Query.{AbstractQuery}
 use Rattle.sparql_parse.specs.declared.fault.QueryFault.{QueryFault}
 use Rattle.sparql_parse.specs.declared.fault.QueryFault.TheVariants as faults
 use Rattle.sparql_parse.proofs.ComputedDenotes.{Denotes, HasNoFaults, HasOwnFault, HasGrammarFault, IsFaultOf, IsMeantBy}
 use Rattle.sparql_parse.specs.Denotes.{grammar_fault, word_fault}
-use Rattle.sparql_parse.specs.computed.Reading.{IsMemoryOr, and_then, first, query_at_end, query_of, query_reading, read_on, tokens_read}
+use Rattle.sparql_parse.specs.computed.Reading.{and_then, first, query_at_end, query_of, query_reading, read_on, tokens_read}
 use Rattle.sparql_parse.proofs.FaultFree.{none-nothing}
 use Rattle.sparql_parse.proofs.FaultFreeRuns.{IsFaultFree, StopsWith, Stands, begins-reads, reads-begins, fault_free-read, read_on-append, read-stands, more-tokens}
 use Rattle.sparql_parse.proofs.QueryReading.{good-reading, bad-reading, text-read, ends, goes_on, query-meant, meant-query}

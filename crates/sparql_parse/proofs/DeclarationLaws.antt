@@ -1,5 +1,5 @@
 -- The IRI for which a prefix stands, by its last declaration, is what is read of the declarations one by one.
-use Rattle.std.proofs.Common.{◌≡◌, ◌⊎◌, inl, inr, ℕ, Bool, true, false, ◌==◌, cond, List, [], ◌∷◌, ◌++◌, fold, reverse, Option, Some, None, refl, sym, ap, subst, ◌∙◌, append_assoc, append-nil}
+use Rattle.std.proofs.Common.{◌≡◌, ◌⊎◌, inl, inr, ℕ, true, false, cond, List, [], ◌∷◌, ◌++◌, fold, reverse, Option, Some, None, refl, sym, ap, subst, ◌∙◌, append_assoc, append-nil}
 use Rattle.std.proofs.lemmas.List.{reverse-append}
 use Rattle.std.proofs.lemmas.List.Folds.{find-append}
 use Rattle.std.proofs.lemmas.Slice.Eq.{bytes_eq-Decides}
@@ -14,7 +14,7 @@ use Rattle.query_values.specs.reading.Values.{IsSpelled, prefix_of, iri_of}
 use Rattle.sparql_parse.specs.computed.Names.{Namespace, namespace_with, namespace_of, is_text}
 use Rattle.sparql_parse.specs.computed.Names.{Declarations, with_namespace, declarations_after, no_declarations, declarations_of, namespaces_of}
 use Rattle.query_values.specs.Iris.{SpellsIri, SpellsPrefix}
-use Rattle.sparql_parse.specs.Declarations.{Declares, IsDeclared, StandsFor}
+use Rattle.sparql_parse.specs.Declarations.{IsDeclared, StandsFor}
 use Rattle.query_values.proofs.SpelledTokens.{SpellsIri-is, iri_of-spelled, SpellsPrefix-is, prefix_of-spelled}
 
 -- a token is spelled, and where it is of a declaration it is a prefix or an IRI

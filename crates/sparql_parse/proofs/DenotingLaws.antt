@@ -1,5 +1,5 @@
 -- What is read of a text is what it denotes, or its fault: what the tokens stand for is what is computed of them.
-use Rattle.std.proofs.Common.{◌≡◌, ◌≢◌, ◌⊎◌, inl, inr, ℕ, Bool, true, false, ◌||◌, ◌==◌, cond, All, List, [], ◌∷◌, ◌++◌, map, fold, Option, Some, None, Result, Ok, Err, refl, sym, ap, subst, ◌∙◌, append_assoc, append-nil, arith, ◌&&◌, if◌then◌else◌}
+use Rattle.std.proofs.Common.{◌≡◌, ◌⊎◌, inl, inr, ℕ, Bool, true, false, ◌||◌, cond, All, List, [], ◌∷◌, ◌++◌, map, fold, Option, Some, None, Result, Ok, Err, refl, sym, ap, subst, ◌∙◌, append_assoc, append-nil, arith, ◌&&◌, if◌then◌else◌}
 use Rattle.std.specs.Prelude.{IfOk, IfErr, MatchResult}
 use Rattle.std.specs.List.{list_any}
 use Rattle.std.specs.Option.{is_some, is_none}
@@ -9,7 +9,6 @@ use Rattle.std.proofs.lemmas.List.Elements.{All-nil, All-cons, All-tail}
 use Rattle.std.proofs.lemmas.Slice.Eq.{bytes_eq-Decides}
 use Rattle.query_tokens.specs.Token.{Lexeme}
 use Rattle.query_tokens.specs.Tokens.{AreTokens}
-use Rattle.query_tokens.specs.declared.token.TokenKind.TheVariants as kinds
 use Rattle.query_grammar.specs.declared.expect.State.{State}
 use Rattle.query_grammar.specs.declared.terminal.Terminal.{Terminal}
 use Rattle.query_grammar.specs.declared.terminal.Terminal.TheVariants as terminals
@@ -30,22 +29,22 @@ use Rattle.alg_model.specs.Query.{AbstractQuery, abstract_of}
 use Rattle.sparql_parse.specs.declared.fault.QueryFault.{QueryFault}
 use Rattle.sparql_parse.specs.declared.fault.QueryFault.TheVariants as faults
 use Rattle.sparql_parse.specs.Declarations.{Declares, IsDeclared}
-use Rattle.sparql_parse.specs.Denotes.{Denotes, HasNoFaults, HasOwnFault, HasGrammarFault, IsFaultOf, IsMeantBy, BeginsSo}
-use Rattle.sparql_parse.specs.Names.{AreNames, same_text, with_item}
+use Rattle.sparql_parse.specs.Denotes.{Denotes, HasNoFaults, HasOwnFault, HasGrammarFault, IsFaultOf, IsMeantBy}
+use Rattle.sparql_parse.specs.Names.{AreNames}
 use Rattle.sparql_parse.specs.Translation.{translated, IsPatternOf, IsNumbered, AreColumnsOf}
-use Rattle.sparql_parse.specs.computed.Faults.{is_unknown, uses_prefix, limit_among, counts_of, fault_of}
-use Rattle.sparql_parse.specs.computed.Meaning.{Scope, scope_of, pattern_of, columns_of}
+use Rattle.sparql_parse.specs.computed.Faults.{uses_prefix, limit_among, counts_of, fault_of}
+use Rattle.sparql_parse.specs.computed.Meaning.{scope_of}
 use Rattle.sparql_parse.specs.computed.Names.{is_text, with_name, names_after, names_of, namespaces_of, namespace_of}
 use Rattle.sparql_parse.specs.computed.Reading.{IsMemoryOr, query_reading}
 use Rattle.sparql_parse.proofs.ComputedDenotes as computed
 use Rattle.sparql_parse.proofs.ComputedLaws as computed_laws
 use Rattle.sparql_parse.proofs.ComputedLaws.{Ok-one, Err-one, Ok-not-Err}
-use Rattle.sparql_parse.proofs.DeclarationLaws.{IsProper, AreProper, AreProper-front, AreProper-back, namespace_of-stands, namespace_of-none, StandsFor-found}
+use Rattle.sparql_parse.proofs.DeclarationLaws.{AreProper, AreProper-front, namespace_of-stands, namespace_of-none, StandsFor-found}
 use Rattle.sparql_parse.proofs.ColumnNumbers.{AreColumnsOf-are, columns_of-are}
 use Rattle.sparql_parse.proofs.FaultFreeRuns.{begins-reads}
 use Rattle.sparql_parse.proofs.NameRelations.{AreNames-is, names_of-are}
 use Rattle.sparql_parse.proofs.NamesDiffer.{names-differ}
-use Rattle.sparql_parse.proofs.NodeLaws.{Agrees, IsGood, scope_with}
+use Rattle.sparql_parse.proofs.NodeLaws.{Agrees, IsGood}
 use Rattle.sparql_parse.proofs.PatternLaws.{pattern_of-numbered, pattern_of-is, is-pattern_of}
 use Rattle.sparql_parse.proofs.QueryNodes.{AreGood, query-places}
 use Rattle.sparql_parse.proofs.ReadingLaws.{reading_at}
@@ -147,16 +146,18 @@ names-listed labelled = fold-listed [] labelled
 
 -- a prefix that is used without a fault is declared
 declared-before : (labelled before rest : List Labelled) (prefix iri : List ℕ) → labelled ≡ before ++ rest → Declares before prefix iri → IsDeclared labelled prefix
-declared-before labelled before rest prefix iri split d =
-    (iri, record {
-      before = d.before;
-      label = d.label;
-      namespace = d.namespace;
-      after = d.after ++ rest;
-      split = split ∙ ap (λ xs. xs ++ rest) d.split ∙ append_assoc d.before (with_role roles.Declared d.label ∷ with_role roles.Namespace d.namespace ∷ d.after) rest;
-      prefix_is = d.prefix_is;
-      iri_is = d.iri_is;
-    })
+declared-before labelled before rest prefix iri split d = (
+  iri,
+  record {
+    before = d.before;
+    label = d.label;
+    namespace = d.namespace;
+    after = d.after ++ rest;
+    split = split ∙ ap (λ xs. xs ++ rest) d.split ∙ append_assoc d.before (with_role roles.Declared d.label ∷ with_role roles.Namespace d.namespace ∷ d.after) rest;
+    prefix_is = d.prefix_is;
+    iri_is = d.iri_is;
+  },
+)
 
 some-after : (labelled before rest : List Labelled) (prefix : List ℕ) → AreProper before → labelled ≡ before ++ rest → is_some (namespace_of (namespaces_of before) prefix) ≡ true → (o : Option (List ℕ)) → namespace_of (namespaces_of labelled) prefix ≡ o → is_some (namespace_of (namespaces_of labelled) prefix) ≡ true
 some-after labelled before rest prefix all split some (Some iri) is = ap is_some is

@@ -12,6 +12,7 @@ mod FaultFree
 mod FaultFreeRuns
 mod KeptLimits
 mod LimitLaws
+mod MeaningExamples
 mod NameLaws
 mod NameRelations
 mod NameTexts

@@ -1,5 +1,5 @@
 -- The places of nodes are those that are computed.
-use Rattle.std.proofs.Common.{◌≡◌, ◌≢◌, ◌⊎◌, inl, inr, ℕ, Bool, true, false, List, [], ◌∷◌, ◌++◌, Option, Some, None, refl, sym, ap, subst, ◌∙◌, append-nil}
+use Rattle.std.proofs.Common.{◌≡◌, ◌≢◌, ◌⊎◌, inl, inr, ℕ, true, List, [], ◌++◌, Some, None, refl, sym, ap, subst, ◌∙◌, append-nil}
 use Rattle.std.specs.List.{list_any}
 use Rattle.std.specs.Option.{is_some, option_map_or}
 use Rattle.bm_term.specs.Canonical.{RdfTerm, iri, plain, tagged, literal_of, canonical_text}
@@ -18,8 +18,8 @@ use Rattle.alg_model.specs.declared.pattern.Place.TheVariants as places
 use Rattle.query_values.specs.reading.Values.{IsSpelled, iri_of, prefix_of, local_of, lexical_of, tag_of, name_of, plain_literal, number_literal, boolean_literal}
 use Rattle.sparql_parse.specs.computed.Names.{namespace_of, is_text}
 use Rattle.sparql_parse.specs.computed.Meaning.{Scope, number_of, namespace_at, iri_of_kind, iri_in, place_of}
-use Rattle.query_values.specs.Iris.{SpellsIri, SpellsPrefix, SpellsPrefixed, SpellsPrefixedName}
-use Rattle.query_values.specs.Literals.{SpellsLexical, SpellsTag}
+use Rattle.query_values.specs.Iris.{SpellsIri, SpellsPrefixedName}
+use Rattle.query_values.specs.Literals.{SpellsLexical}
 use Rattle.sparql_parse.specs.Declarations.{StandsFor}
 use Rattle.sparql_parse.specs.Names.{HasNumber}
 use Rattle.sparql_parse.specs.Places.{IsIriOf, IsTermOf, IsTermPlace, IsPlaceOf}

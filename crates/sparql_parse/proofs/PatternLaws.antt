@@ -1,5 +1,5 @@
 -- The pattern of a query by its nodes' places is the one that is computed.
-use Rattle.std.proofs.Common.{◌≡◌, ℕ, ◌+◌, List, [], ◌∷◌, ◌++◌, map, length, refl, sym, ap, subst, ◌∙◌, arith, length-append, append_assoc}
+use Rattle.std.proofs.Common.{◌≡◌, ℕ, ◌+◌, List, [], ◌∷◌, ◌++◌, map, length, refl, sym, ap, subst, ◌∙◌, arith, length-append}
 use Rattle.std.specs.List.{range_with_len}
 use Rattle.query_grammar.specs.Roles.{Labelled}
 use Rattle.query_grammar.specs.Tree.{Same, Parts, NoParts, OptionalPart, NestedPart, Group}

@@ -1,5 +1,5 @@
 -- The nodes of a query whose tokens are good have places, and its columns have numbers.
-use Rattle.std.proofs.Common.{◌≡◌, ◌≢◌, ◌⊎◌, inl, inr, ℕ, true, false, Bool, List, [], ◌∷◌, ◌++◌, map, subst, refl}
+use Rattle.std.proofs.Common.{◌≡◌, ◌≢◌, ◌⊎◌, inl, inr, true, false, Bool, List, [], ◌∷◌, ◌++◌, map, subst}
 use Rattle.std.specs.List.{flat_map}
 use Rattle.query_tokens.specs.Token.{Lexeme}
 use Rattle.query_grammar.specs.declared.terminal.Terminal.{Terminal}
@@ -9,7 +9,7 @@ use Rattle.query_grammar.specs.declared.syntax.Role.TheVariants as roles
 use Rattle.query_grammar.specs.Terminals.{terminal_of}
 use Rattle.query_grammar.specs.Roles.{Labelled, with_role}
 use Rattle.query_grammar.specs.Tree.{Node, VariableNode, IriNode, StringNode, TaggedNode, TypedNode, NumberNode, BooleanNode, TypeNode, Property, Same, Parts, NoParts, OptionalPart, NestedPart, Group, Declaration, Columns, AllColumns, Variables, Syntax}
-use Rattle.query_grammar.specs.Grammar.{Spelling, ◌▸◌, Nothing, Never, Maybe, Many, none, more, Token, SomeToken, Keyword, IsIri, IsNode, IsVerb, AreMoreObjects, AreObjects, IsProperty, AreMoreProperties, AreProperties, IsSame, AreMoreSames, IsBlock, InBraces, AreParts, IsGroup, AreMoreVariables, AreVariables, AreColumns, IsDistinct, IsDeclaration, IsPrologue, SpellsQuery}
+use Rattle.query_grammar.specs.Grammar.{Spelling, ◌▸◌, Nothing, Never, Maybe, Many, none, more, Token, SomeToken, Keyword, IsIri, IsNode, IsVerb, AreMoreObjects, AreObjects, IsProperty, AreMoreProperties, AreProperties, IsSame, AreMoreSames, IsBlock, InBraces, AreParts, IsGroup, AreMoreVariables, AreColumns, IsDistinct, IsPrologue, SpellsQuery}
 use Rattle.query_values.specs.reading.Values.{name_of}
 use Rattle.sparql_parse.specs.computed.Meaning.{Scope, number_of}
 use Rattle.sparql_parse.specs.Translation.{NodeTriple, triples_of_property, triples_of_same, triples_of_block}

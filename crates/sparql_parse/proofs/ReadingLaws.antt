@@ -1,22 +1,17 @@
 -- One token more of a query.
-use Rattle.std.proofs.Common.{◌≡◌, ℕ, suc, ◌+◌, ◌<◌, ◌≤◌, length, map, drop, get_or, inl, inr, All, List, [], ◌∷◌, ◌++◌, Some, None, Ok, Err, refl, ap, subst, ◌∙◌, sym, arith}
+use Rattle.std.proofs.Common.{◌≡◌, ℕ, suc, ◌+◌, ◌<◌, ◌≤◌, length, map, drop, get_or, All, List, [], ◌∷◌, ◌++◌, Some, None, Ok, Err, refl, ap, subst, ◌∙◌, sym, arith}
 use Rattle.std.proofs.lemmas.List.Elements.{All-append, All-cons, All-nil}
 use Rattle.std.proofs.Math.Seq.{drop-cons}
 use Rattle.std.proofs.Math.ListN.{get_or-map}
 use Rattle.std.proofs.lemmas.List.{length-map, map-append, drop_all}
 use Rattle.query_tokens.specs.Token.{Lexeme, shown}
 use Rattle.query_tokens.specs.declared.token.Token.{Token}
-use Rattle.query_tokens.specs.declared.token.TokenKind.{TokenKind}
-use Rattle.query_tokens.specs.declared.token.TokenKind.TheVariants as kinds
-use Rattle.query_grammar.specs.declared.terminal.Terminal.TheVariants as terminals
-use Rattle.query_grammar.specs.declared.expect.Expect.{Expect}
-use Rattle.query_grammar.specs.declared.expect.Expect.TheVariants as expects
 use Rattle.query_grammar.specs.declared.expect.State.{State}
 use Rattle.query_grammar.specs.declared.expect.Step.{Step}
-use Rattle.query_grammar.specs.Terminals.{terminal_of, terminal_of_text}
+use Rattle.query_grammar.specs.Terminals.{terminal_of}
 use Rattle.query_grammar.specs.Words.{unsupported_word}
 use Rattle.query_grammar.specs.Roles.{Labelled, with_role, tokens_of, open_groups}
-use Rattle.query_grammar.specs.Expecting.{start, step_at, next_step, Reading, read_tokens}
+use Rattle.query_grammar.specs.Expecting.{start, next_step, Reading, read_tokens}
 use Rattle.query_grammar.proofs.Runs.{read-last, read-nothing}
 use Rattle.query_grammar.proofs.Depth.{groups-open_groups}
 use Rattle.sparql_parse.specs.declared.fault.QueryFault.{QueryFault}

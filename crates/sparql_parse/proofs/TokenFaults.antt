@@ -1,6 +1,6 @@
 -- The fault of a token is the one that is computed.
-use Rattle.std.proofs.Common.{◌≡◌, ◌≢◌, ◌⊎◌, inl, inr, ℕ, ◌<◌, Bool, true, false, ◌&&◌, nat_lt, if◌then◌else◌, List, [], ◌∷◌, ◌++◌, length, Option, Some, None, refl, sym, ap, subst, ◌∙◌, arith}
-use Rattle.std.specs.Option.{is_none, is_some}
+use Rattle.std.proofs.Common.{◌≡◌, ◌≢◌, ◌⊎◌, inl, inr, ℕ, ◌<◌, Bool, true, false, nat_lt, if◌then◌else◌, List, [], ◌∷◌, ◌++◌, length, Option, Some, None, refl, sym, ap, subst, ◌∙◌, arith}
+use Rattle.std.specs.Option.{is_none}
 use Rattle.std.proofs.lemmas.Bool.{and_parts}
 use Rattle.std.specs.Cmp.Derive.{both_true}
 use Rattle.std.proofs.lemmas.Bool.Decides.{nat_tests}
@@ -14,16 +14,14 @@ use Rattle.query_values.specs.reading.Values.{IsSpelled, prefix_of, local_of}
 use Rattle.alg_model.specs.Limits.{max_variables, max_triple_patterns, max_optionals, max_groups, max_open_groups}
 use Rattle.sparql_parse.specs.declared.fault.QueryFault.{QueryFault}
 use Rattle.sparql_parse.specs.declared.fault.QueryFault.TheVariants as faults
-use Rattle.sparql_parse.specs.computed.Names.{Namespace, namespace_of, names_of}
+use Rattle.sparql_parse.specs.computed.Names.{namespace_of, names_of}
 use Rattle.sparql_parse.specs.Faults.{is_object, is_optional}
-use Rattle.sparql_parse.specs.computed.Faults.{uses_prefix, is_unknown, counts_of, fault_of, limit_among, fault_among}
+use Rattle.sparql_parse.specs.computed.Faults.{uses_prefix, is_unknown, counts_of, fault_of, fault_among}
 use Rattle.sparql_parse.specs.computed.Names.{namespaces_of}
-use Rattle.query_values.specs.Iris.{SpellsPrefix, SpellsPrefixed, SpellsPrefixedName}
-use Rattle.sparql_parse.specs.Declarations.{IsDeclared}
-use Rattle.sparql_parse.specs.Names.{AreNames}
+use Rattle.query_values.specs.Iris.{SpellsPrefixedName}
 use Rattle.sparql_parse.specs.Faults.{HasUnknownPrefix, HasTooManyNames, IfHolds, HasFault}
 use Rattle.query_values.proofs.SpelledTokens.{prefix_of-spelled, prefixed-spelled, SpellsPrefixedName-prefix}
-use Rattle.sparql_parse.proofs.DeclarationLaws.{IsProper, AreProper, AreProper-front, AreProper-back, namespace_of-none, not-declared-none}
+use Rattle.sparql_parse.proofs.DeclarationLaws.{AreProper, AreProper-front, AreProper-back, namespace_of-none, not-declared-none}
 use Rattle.sparql_parse.proofs.NameRelations.{AreNames-is, names_of-are}
 
 -- a test that decides a claim
@@ -91,8 +89,7 @@ module _ (before : List Labelled) (l : Labelled) (proper : AreProper (before ++ 
   unknown-yes e =
       let (uses_one, none) = and_parts (uses_prefix l.token.kind l.role) (is_none (namespace_of (namespaces_of before) (prefix_of l.token))) e in
       let (first, end) = AreProper-back before (l ∷ []) proper in
-      let (local, name) = name-spelled l.token first.spelled (uses-kind l.token.kind l.role uses_one) in
-      (
+      let (local, name) = name-spelled l.token first.spelled (uses-kind l.token.kind l.role uses_one) in (
         λ role. (let same : uses_prefix l.token.kind l.role ≡ false = ap (uses_prefix l.token.kind) role ∙ role-unused l.token.kind in cc),
         (prefix_of l.token, local, name, namespace_of-none before (prefix_of l.token) (none-is (namespace_of (namespaces_of before) (prefix_of l.token)) none)),
       )

@@ -13,7 +13,6 @@ use Rattle.query_grammar.specs.declared.words.Word.{Word}
 use Rattle.query_grammar.specs.Words.{unsupported_word}
 use Rattle.sparql_parse.specs.Faults.{HasFault}
 use Rattle.sparql_parse.specs.Names.{AreNames}
-use Rattle.sparql_parse.specs.Places.{Scope}
 use Rattle.sparql_parse.specs.Translation.{translated, IsPatternOf, IsNumbered, AreColumnsOf}
 
 -- no token has a fault of its prefix or of a limit

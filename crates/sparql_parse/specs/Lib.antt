@@ -1,3 +1,4 @@
+pub mod Causes
 pub mod Declarations
 pub mod Denotes
 pub mod Faults

@@ -2,7 +2,6 @@
 -- SPARQL 1.1 Query, sections 4.2 and 18.2.2.
 use Rattle.std.specs.Prelude.{◌≡◌, ℕ, ◌==◌, List, [], ◌∷◌, map, length}
 use Rattle.std.specs.List.{flat_map, range_with_len}
-use Rattle.query_tokens.specs.Token.{Lexeme}
 use Rattle.alg_model.specs.declared.pattern.TriplePat.{TriplePat}
 use Rattle.alg_model.specs.Pattern.{Algebra, Bgp, Join, LeftJoin, vars_of, triple_patterns}
 use Rattle.query_grammar.specs.Tree.{Node, Property, Same, Parts, NoParts, OptionalPart, NestedPart, Group, Columns, AllColumns, Variables}

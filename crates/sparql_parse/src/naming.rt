@@ -14,7 +14,7 @@ use crate::fault::QueryFault;
 use crate::namespaces::Namespaces;
 use crate::tally::Tally;
 use alg_model::Names;
-use query_grammar::{Role, Terminal, terminal_of};
+use query_grammar::{Role, Terminal};
 use query_tokens::{Token, TokenKind};
 use query_values::{prefix, variable_name};
 use std::alloc::{AllocError, Global};
@@ -93,30 +93,39 @@ impl Naming {
     pub(crate) fn take(
         &mut self,
         role: Role,
+        terminal: Terminal,
         token: Token<'_>,
         depth: usize,
     ) -> Result<(), QueryFault>
-        requires { IsSpelled (shown token) }
+        requires spelled { IsSpelled (shown token) }
+        requires terminal { terminal ≡ terminal_of (shown token) }
         ensures kept { OnOk result (self.new ≡ kept_after self.old (with_role role (shown token.entry))) }
         ensures none { OnOk result (fault_after self.old depth (with_role role (shown token.entry)) ≡ None) }
         ensures fault { IfErr result (λ fault. (fault ≡ QueryFault.Memory) ⊎ (fault_after self.old depth (with_role role (shown token.entry)) ≡ Some fault)) }
     {
-        match self.fault(role, token, depth) {
+        match self.fault(role, terminal, token, depth) {
             Some(fault) => Err(fault),
-            None => Ok(self.keep(role, token)?),
+            None => Ok(self.keep(role, terminal, token)?),
         }
     }
 
     // The fault of a token.
-    fn fault(&self, role: Role, token: Token<'_>, depth: usize) -> Option<QueryFault>
-        requires { IsSpelled (shown token) }
+    fn fault(
+        &self,
+        role: Role,
+        terminal: Terminal,
+        token: Token<'_>,
+        depth: usize,
+    ) -> Option<QueryFault>
+        requires spelled { IsSpelled (shown token) }
+        requires terminal { terminal ≡ terminal_of (shown token) }
         ensures { result ≡ fault_after self.now depth (with_role role (shown token.entry)) }
     {
         if self.is_unknown(role, token) {
             return Some(QueryFault::UnknownPrefix { at: token.at });
         }
         let tally = self.tally.behind(role);
-        tally.fault(self.names_after(token), depth, token.at)
+        tally.fault(self.names_after(terminal, token), depth, token.at)
     }
 
     // Whether a token uses a prefix that is not declared.
@@ -128,10 +137,10 @@ impl Naming {
     }
 
     // How many names there are behind a token.
-    fn names_after(&self, token: Token<'_>) -> usize
-        ensures { result ≡ length (names_after self.now.names (terminal_of (shown token.entry)) (shown token.entry)) }
+    fn names_after(&self, terminal: Terminal, token: Token<'_>) -> usize
+        ensures { result ≡ length (names_after self.now.names terminal (shown token.entry)) }
     {
-        if is_new(&self.names, token) {
+        if is_new(&self.names, terminal, token) {
             self.names.len() + 1
         } else {
             self.names.len()
@@ -139,12 +148,13 @@ impl Naming {
     }
 
     // Keeps what is to be kept of a token that has no fault.
-    fn keep(&mut self, role: Role, token: Token<'_>) -> Result<(), AllocError>
+    fn keep(&mut self, role: Role, terminal: Terminal, token: Token<'_>) -> Result<(), AllocError>
         requires spelled { IsSpelled (shown token) }
+        requires terminal { terminal ≡ terminal_of (shown token) }
         requires within { let behind = kept_after self.old (with_role role (shown token)) in IsWithin behind.names behind.tally }
         ensures { OnOk result (self.new ≡ kept_after self.old (with_role role (shown token.entry))) }
     {
-        add_name(&mut self.names, token)?;
+        add_name(&mut self.names, terminal, token)?;
         self.namespaces.take(self.alloc, role, token)?;
         self.tally = self.tally.behind(role);
         Ok(())
@@ -152,21 +162,21 @@ impl Naming {
 }
 
 // Whether a token is a variable whose name is not there yet.
-fn is_new(names: &Names, token: Token<'_>) -> bool
-    ensures { result ≡ is_new_name names.now (terminal_of (shown token.entry)) (shown token.entry) }
+fn is_new(names: &Names, terminal: Terminal, token: Token<'_>) -> bool
+    ensures { result ≡ is_new_name names.now terminal (shown token.entry) }
 {
-    match terminal_of(&token) {
+    match terminal {
         Terminal::Variable => names.position(variable_name(token)).is_none(),
         _ => false,
     }
 }
 
 // Puts the name of a variable at the end, unless it is there.
-fn add_name(names: &mut Names, token: Token<'_>) -> Result<(), AllocError>
-    ensures ok { OnOk result (names.new ≡ names_after names.old (terminal_of (shown token.entry)) (shown token.entry)) }
+fn add_name(names: &mut Names, terminal: Terminal, token: Token<'_>) -> Result<(), AllocError>
+    ensures ok { OnOk result (names.new ≡ names_after names.old terminal (shown token.entry)) }
     ensures err { OnErr result (names.new ≡ names.old) }
 {
-    if is_new(names, token) {
+    if is_new(names, terminal, token) {
         names.push(variable_name(token))?;
     }
     Ok(())

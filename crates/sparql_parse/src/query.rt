@@ -2,7 +2,6 @@
 ghost use Rattle.std.specs.Prelude.{◌≡◌, ◌⊎◌, All, IfOk, IfErr, MatchResult, OnOk, Ok, Err, map, [], ◌∷◌, ◌++◌};
 ghost use Rattle.query_grammar.specs.Roles.{with_role};
 ghost use Rattle.sparql_parse.specs.held.Builds.{labelled_in};
-ghost use Rattle.std.specs.Str.{IsUtf8};
 ghost use Rattle.query_tokens.specs.Token.{shown};
 ghost use Rattle.query_grammar.specs.declared.expect.Expect.{Expect};
 ghost use Rattle.alg_model.specs.Query.{AbstractQuery, abstract_of};
@@ -18,7 +17,7 @@ use crate::fault::QueryFault;
 use crate::naming::Naming;
 use alg_model::Query;
 use query_grammar::{Role, State, next, terminal_of, unsupported_word};
-use query_tokens::{Token, tokens};
+use query_tokens::{Token, text_tokens};
 use std::alloc::{AllocError, Global};
 
 /// What is read of a query: its tokens in their roles, where it stands behind them, and what is kept of
@@ -51,10 +50,14 @@ impl<'a> Reader<'a> {
         ensures kept { OnOk result (IsKept self.new) }
         ensures fault { IfErr result (IsMemoryOr (read_next (reading_in self.old) (shown token.entry))) }
     {
-        match next(self.state, terminal_of(&token)) {
+        let terminal = terminal_of(&token);
+        match next(self.state, terminal) {
             None => Err(grammar_fault(token)),
             Some(step) => {
-                match self.naming.take(step.role, token, step.state.groups) {
+                match self
+                    .naming
+                    .take(step.role, terminal, token, step.state.groups)
+                {
                     Ok(()) => {}
                     Err(fault) => return Err(fault),
                 }
@@ -138,7 +141,7 @@ pub fn parse_query(alloc: Global, text: &[u8]) -> Result<Query, QueryFault>
         MatchResult result (λ query. ⊥) (λ answer. (answer ≡ QueryFault.Memory) ⊎ (answer ≡ fault)) }
 {
     match str::from_utf8(text) {
-        Ok(_) => parse_text(alloc, text),
+        Ok(source) => parse_text(alloc, source),
         Err(e) => Err(QueryFault::Syntax {
             at: e.valid_up_to(),
         }),
@@ -146,12 +149,11 @@ pub fn parse_query(alloc: Global, text: &[u8]) -> Result<Query, QueryFault>
 }
 
 // The same of a text that is UTF-8.
-fn parse_text(alloc: Global, text: &[u8]) -> Result<Query, QueryFault>
-    requires { IsUtf8 text.now }
+fn parse_text(alloc: Global, text: &str) -> Result<Query, QueryFault>
     ensures reads { MatchResult result (λ query. text_reading text.now ≡ Ok (abstract_of query)) (IsMemoryOr (text_reading text.now)) }
     ensures limits { IfOk result KeepsLimits }
 {
-    let tokens = tokens(alloc, text)?;
+    let tokens = text_tokens(alloc, text)?;
     let reader = match read_all(alloc, tokens.as_slice()) {
         Ok(reader) => reader,
         Err(fault) => return Err(fault),

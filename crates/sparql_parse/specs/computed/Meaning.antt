@@ -1,5 +1,5 @@
 -- Carries proofs only: what a syntax tree means, with the numbers of triple patterns counted on the way.
-use Rattle.std.specs.Prelude.{ℕ, ◌+◌, List, [], ◌∷◌, ◌++◌, map, length, ◌==◌, position}
+use Rattle.std.specs.Prelude.{ℕ, ◌+◌, List, [], ◌∷◌, map, length, ◌==◌, position}
 use Rattle.std.specs.Option.{option_map_or}
 use Rattle.bm_term.specs.Canonical.{RdfTerm, iri, canonical_text}
 use Rattle.query_tokens.specs.Token.{Lexeme}
@@ -9,7 +9,7 @@ use Rattle.alg_model.specs.declared.pattern.Place.{Place}
 use Rattle.alg_model.specs.declared.pattern.Place.TheVariants as places
 use Rattle.alg_model.specs.declared.pattern.TriplePat.{TriplePat}
 use Rattle.alg_model.specs.Pattern.{Algebra, Bgp, Join, LeftJoin, vars_of}
-use Rattle.query_grammar.specs.Tree.{Node, VariableNode, IriNode, StringNode, TaggedNode, TypedNode, NumberNode, BooleanNode, TypeNode, Property, Same, Parts, NoParts, OptionalPart, NestedPart, Group, Columns, AllColumns, Variables}
+use Rattle.query_grammar.specs.Tree.{Node, VariableNode, IriNode, StringNode, TaggedNode, TypedNode, NumberNode, BooleanNode, TypeNode, Same, Parts, NoParts, OptionalPart, NestedPart, Group, Columns, AllColumns, Variables}
 use Rattle.query_grammar.specs.Roles.{Labelled}
 use Rattle.sparql_parse.specs.Names.{with_item, each_once}
 use Rattle.sparql_parse.specs.Translation.{NodeTriple, triples_of_block}

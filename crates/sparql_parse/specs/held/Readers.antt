@@ -1,7 +1,5 @@
 -- Carries proofs only: what the code has read, as it is computed.
-use Rattle.std.specs.Prelude.{◌≡◌, ◌⊎◌, ◌≤◌, All, List, map, Some}
-use Rattle.query_tokens.specs.Token.{Lexeme}
-use Rattle.query_tokens.specs.declared.token.TokenKind.TheVariants as kinds
+use Rattle.std.specs.Prelude.{◌≡◌, ◌≤◌, All, List, map, Some}
 use Rattle.query_grammar.specs.Roles.{Labelled, tokens_of}
 use Rattle.query_grammar.specs.Expecting.{Reading, read_tokens, start}
 use Rattle.query_grammar.specs.declared.expect.State.{State}

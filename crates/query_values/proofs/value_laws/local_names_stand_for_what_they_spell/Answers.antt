@@ -1,7 +1,7 @@
 use Rattle.query_values.proofs.SpelledValues.{local_of-spells, local_of-irichars}
-use Rattle.std.proofs.Common.{◌≡◌, ℕ, List, subst}
+use Rattle.std.proofs.Common.{ℕ, List, subst}
 use Rattle.query_values.specs.Iris.{SpellsPrefixed}
-use Rattle.query_values.specs.reading.Values.{prefix_of, local_of}
+use Rattle.query_values.specs.reading.Values.{local_of}
 use Rattle.query_values.proofs.SpelledTokens.{SpellsPrefixed-prefix, SpellsPrefixed-local, prefixed-spelled}
 use Rattle.query_values.proofs.value_laws.local_names_stand_for_what_they_spell.Goals as goal
 

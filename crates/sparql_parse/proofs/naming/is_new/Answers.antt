@@ -1,4 +1,4 @@
-use Rattle.std.proofs.Common.{not, ap, ◌∙◌}
+use Rattle.std.proofs.Common.{not, ap, ◌∙◌, sym}
 use Rattle.std.specs.List.{position}
 use Rattle.std.specs.Option.{is_none, is_some}
 use Rattle.query_tokens.specs.Token.{shown}
@@ -15,4 +15,4 @@ returns-in-Variable c =
     not_back (is_some c.position.result) c.is_none.result c.is_none.ensures ∙ ap is_none c.position.ensures
     ∙ ap (λ name. is_none (position (is_text name) names)) c.variable_name.ensures
     ∙ ap not (is_some-position (is_text (name_of token)) names)
-    ∙ ap (λ t. is_new_name names t token) c.in-Variable.ensures
+    ∙ ap (λ t. is_new_name names t token) (sym c.in-Variable.is)

@@ -5,7 +5,7 @@ use Rattle.sparql_parse.proofs.DenotingLaws.{read-query, read-fault, read-only_q
 use Rattle.sparql_parse.proofs.query.parse_query.Goals as goal
 
 pub returns-in-Ok-clause-reads : goal.returns-in-Ok-clause-reads
-returns-in-Ok-clause-reads c = rw (good-reading c.args.text.now c.in-Ok.ensures.cases.1) c.parse_text.ensures.reads
+returns-in-Ok-clause-reads c = rw (good-reading c.args.text.now c.in-Ok.ensures.cases.1) (rw c.in-Ok.ensures.cases.0 at c.parse_text.ensures.reads)
 
 pub returns-in-Err-clause-reads : goal.returns-in-Err-clause-reads
 returns-in-Err-clause-reads c =

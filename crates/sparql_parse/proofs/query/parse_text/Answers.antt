@@ -10,7 +10,7 @@ use Rattle.sparql_parse.proofs.query.parse_text.Goals as goal
 pub read_all-requires : goal.read_all-requires
 read_all-requires c =
     let are : AreTokens c.args.text.now (map shown c.as_slice.result.now) = subst (AreTokens c.args.text.now) (sym c.as_slice.ensures) c.in_ok-tokens.ensures.tokens in
-    record { spelled = spelled_tokens c.args.text.now (map shown c.as_slice.result.now) c.requires are }
+    record { spelled = spelled_tokens c.args.text.now (map shown c.as_slice.result.now) c.utf8.text are }
 
 pub returns-in-Err-clause-reads : goal.returns-in-Err-clause-reads
 returns-in-Err-clause-reads c =

@@ -15,6 +15,7 @@ pub returns : goal.returns
 returns c =
     c.fault.ensures
     ∙ ap (λ n. limit_among c.args.token.at (counts_with n c.behind-tally.result c.args.depth)) c.names_after.ensures
+    ∙ ap (λ t. limit_among c.args.token.at (counts_with (length (names_after c.args.self.now.names t (shown c.args.token))) c.behind-tally.result c.args.depth)) c.requires.terminal
     ∙ ap (λ t. limit_among c.args.token.at (counts_with (length (names_after c.args.self.now.names (terminal_of (shown c.args.token)) (shown c.args.token))) t c.args.depth))
     (c.behind-tally.ensures ∙ ap (λ (k : Kept). tally_after k.tally c.args.role) c.self.view_is)
     ∙ sym (fault-limit c.args.self.now c.args.depth (with_role c.args.role (shown c.args.token)) (sym c.if-is_unknown.ensures))
