@@ -16,6 +16,16 @@ TOP = pathlib.Path(__file__).resolve().parent.parent
 PAGE = TOP / "docs" / "HEADLINE.md"
 HEADLINE = "answers"
 LONG = 100
+FRONT = f"""\
+# What the headline rests on
+
+Made by `tools/headline.py`; `tools/headline.py --check` says whether it is current.
+
+The headline of this program is the clause `{HEADLINE}` of `run`. It speaks of any world that meets the trait `World`. Whoever
+wants to know what it says has to read these two and the definitions below, and no proof: the prover has read those. The
+lowest crate comes first, and a file after those that it uses. *Lines* are those of the file, *cited* those of the
+definitions that are reached, with their comments; the last column names these where they are not all. A table has only
+what no earlier table has.""".splitlines()
 SIGNATURE = re.compile(r"(?:(?:abbrev|unfoldable|pub)\s+)*(\S+)\s+:(?:\s|$)")
 TYPE = re.compile(r"(?:pub\s+)?(record|data)\s+(?:pub\s+)?(\S+)")
 USE = re.compile(r"^\s*(?:ghost )?use ((?:Rattle\.)\S+?)(?:\.\{([^}]*)\}|(?: as (\w+))?);?\s*$", re.M)
@@ -227,70 +237,59 @@ def table(closure, crates, skipped):
     for crate in crates:
         files = [file for file in closure.files.values() if file.crate == crate]
         for file in in_order(closure, files):
-            reached = [d for d in file.definitions if d in closure.reached and (file.crate, file.module, d.name) not in skipped]
+            reached = [d for d in file.definitions if d in closure.reached and d not in skipped]
             if not reached:
                 continue
-            skipped.update((file.crate, file.module, d.name) for d in reached)
+            skipped.update(reached)
             lines, cited = len(file.text.splitlines()), sum(len(d.lines) for d in reached)
             which = "all" if len(reached) == len(file.definitions) else ", ".join(f"`{d.name}`" for d in reached)
             place = file.path.relative_to(TOP)
-            rows.append(f"| [`{crate}/{file.module}`](../{place}) | {lines} | {cited} | {file.first_comment()} | {which} |")
+            name = f"{crate}/{file.module.replace('.', '/')}"
+            rows.append(f"| [`{name}`](../{place}) | {lines} | {cited} | {file.first_comment()} | {which} |")
             sums = [a + b for a, b in zip(sums, (1, lines, cited, len(reached)))]
     return rows, sums
 
 
+def source_rows(closure, crates):
+    """A row for each source file whose types or constants the definitions name."""
+    order = {crate: number for number, crate in enumerate(crates)}
+    for (crate, path), names in sorted(closure.source.items(), key=lambda item: (order[item[0][0]], str(item[0][1]))):
+        yield f"| [`{path}`](../{path}) | {', '.join(f'`{name}`' for name in sorted(names))} |"
+
+
+def section(part, first):
+    title, source, length, rows, files, lines, cited, count = part
+    further = "" if first else " further"
+    return [
+        "",
+        f"## {title}",
+        "",
+        f"[`{source}`](../{source}), {length} lines, from which {count}{further} definitions in {files} files are reached.",
+        "",
+        "| File | Lines | Cited | What it is | Definitions |",
+        "|---|---:|---:|---|---|",
+        *rows,
+        f"| **{files} files** | **{lines}** | **{cited}** | | **{count}** |",
+    ]
+
+
 def page():
-    crates, skipped, parts = crates_by_layer(), set(), []
-    whole = Closure()
+    crates, skipped, parts, whole = crates_by_layer(), set(), [], Closure()
     for title, source, text, uses in roots():
         whole.follow(text, uses)
         rows, sums = table(whole, crates, skipped)
         parts.append((title, source, len([line for line in text.splitlines() if line.strip()]), rows, *sums))
-    out = [
-        "# What the headline rests on",
-        "",
-        "Made by `tools/headline.py`; `tools/headline.py --check` says whether it is current.",
-        "",
-        f"The headline of this program is the clause `{HEADLINE}` of `run`. It speaks of any world that meets the trait `World`.",
-        "Whoever wants to know what it says has to read these two and the definitions below, and no proof: those the prover has",
-        "read. The lowest crate comes first, and a file after those that it uses. *Lines* are those of the file, *cited* those of",
-        "the definitions that are reached, with their comments; the last column names these where they are not all. A table",
-        "has only what no earlier table has.",
-    ]
-    for title, source, length, rows, files, lines, cited, count in parts:
-        more = " further" if parts[0][0] != title else ""
-        reaches = f"It reaches {count}{more} definitions in {files} files" if source.endswith("world.rt") or not more else f"They reach {count}{more} definitions in {files} files"
-        out += [
-            "",
-            f"## {title}",
-            "",
-            f"[`{source}`](../{source}), {length} lines. {reaches}.",
-            "",
-            "| File | Lines | Cited | What it is | Definitions |",
-            "|---|---:|---:|---|---|",
-            *rows,
-            f"| **{files} files** | **{lines}** | **{cited}** | | **{count}** |",
-        ]
-    out += [
-        "",
-        "## Types and constants of the source",
-        "",
-        "The definitions name these, which the prover takes from the source as they are.",
-        "",
-        "| File | Names |",
-        "|---|---|",
-    ]
-    order = {crate: number for number, crate in enumerate(crates)}
-    for (crate, path), names in sorted(whole.source.items(), key=lambda item: (order[item[0][0]], str(item[0][1]))):
-        out.append(f"| [`{path}`](../{path}) | {', '.join(f'`{name}`' for name in sorted(names))} |")
+    out = list(FRONT)
+    for part in parts:
+        out += section(part, part is parts[0])
+    out += ["", "## Types and constants of the source", ""]
+    out += ["The definitions name these, which the prover takes from the source as they are.", ""]
+    out += ["| File | Names |", "|---|---|", *source_rows(whole, crates)]
     out += ["", "## The sum", "", "| Part | Clauses, lines | Definitions | Their lines |", "|---|---:|---:|---:|"]
     out += [f"| {title} | {length} | {count} | {cited} |" for title, _, length, _, _, _, cited, count in parts]
     length, cited, count = (sum(part[at] for part in parts) for at in (2, 6, 7))
-    out += [
-        f"| **all** | **{length}** | **{count}** | **{cited}** |",
-        "",
-        f"Below them are {len(whole.library)} words of the kit's library.",
-    ]
+    out += [f"| **all** | **{length}** | **{count}** | **{cited}** |", ""]
+    out += [f"Below them are {len(whole.library)} words of the kit's library."]
     return "\n".join(out) + "\n"
 
 

@@ -75,15 +75,15 @@ def faults_of(program, run):
 def main():
     if len(sys.argv) < 2:
         sys.exit(__doc__)
-    program = str(pathlib.Path(sys.argv[1]).resolve(strict=True))
+    program = pathlib.Path(sys.argv[1]).resolve()
+    if not program.is_file():
+        sys.exit(f"{program} is not there: build it first")
     runs = [RUNS / name for name in sys.argv[2:]] or sorted(path for path in RUNS.iterdir() if path.is_dir())
     failed = 0
     for run in runs:
         faults = faults_of(program, run)
         failed += bool(faults)
-        print(f"run {run.name}: {'failed' if faults else 'ok'}")
-        for fault in faults:
-            print(f"    {fault}")
+        print(f"run {run.name}: {'failed' if faults else 'ok'}", *faults, sep="\n    ", flush=True)
     print(f"stored runs: {len(runs) - failed} passed, {failed} failed")
     sys.exit(1 if failed or not runs else 0)
 

@@ -130,7 +130,8 @@ impl MemWorld {
     /// The three counts: of `open` and `read`, of `create`, `write`, `close` and `print`, and of
     /// `complain`.
     pub fn faults(&self) -> (u64, u64, u64)
-        ensures { let faults = self.now.faults in result ≡ (faults.reads, faults.writes, faults.says) }
+        ensures { let faults = self.now.faults in
+            result ≡ (faults.reads, faults.writes, faults.says) }
     {
         (self.faults.reads, self.faults.writes, self.faults.says)
     }
@@ -143,7 +144,8 @@ impl World for MemWorld {
 
     fn open(&mut self, name: &str) -> Result<(), Failed>
         ensures ends { Ends (is_due WorldCall.Open self.old.schedule)
-            (is_none (file_at self.old.meanings name.now)) result self.old.faults.reads self.new.faults.reads }
+            (is_none (file_at self.old.meanings name.now)) result
+            self.old.faults.reads self.new.faults.reads }
         ensures exact { self.new ≡ record self.old {
           meanings = if is_ok result
               then with_opened self.old.meanings name.now (file_at self.old.meanings name.now)
@@ -312,7 +314,8 @@ fn raise(count: &mut u64) -> Failed
 
 // Puts a copy of the name after the others.
 fn push_name(alloc: Global, names: &mut Vec<String>, name: &str) -> Result<(), AllocError>
-    ensures ok { OnOk result (map string_bytes names.new.items ≡ map string_bytes names.old.items ++ name.now ∷ []) }
+    ensures ok { OnOk result (map string_bytes names.new.items
+        ≡ map string_bytes names.old.items ++ name.now ∷ []) }
     ensures err { OnErr result (names.new.items ≡ names.old.items) }
 {
     names.push(String::from_str(alloc, name)?)?;

@@ -48,7 +48,8 @@ pub fn read_all<W: World>(
 ) -> Result<Vec<u8>, ReadEnd>
     ensures step { Step (W.told world.old) (W.told world.new) (ReadsAll name.now limit result) }
     ensures within { IfOk result (λ bytes. vec_len bytes ≤ limit) }
-    ensures fault { IsErrOf result ReadEnd.Fault → Rose (W.faults world.old).reads (W.faults world.new).reads
+    ensures fault { IsErrOf result ReadEnd.Fault →
+        Rose (W.faults world.old).reads (W.faults world.new).reads
         ⊎ IsSomeAnd (W.told world.old) (IsMissing name.now) }
     ensures later { (W.faults world.old).reads ≤ (W.faults world.new).reads }
     ensures writes_stay { (W.faults world.new).writes ≡ (W.faults world.old).writes }
