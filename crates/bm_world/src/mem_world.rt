@@ -1,4 +1,4 @@
-// A world in memory.
+//! A world in memory.
 ghost use Rattle.std.specs.Prelude.{◌≡◌, ◌++◌, [], ◌∷◌, None, Some, IfOk, OnOk, OnErr, IsSome, IsOk, string_bytes, min, length, map, take, drop, is_some, is_none, is_ok, false, if◌then◌else◌};
 ghost use Rattle.std.specs.Option.{option_copied, option_map};
 ghost use Rattle.std.specs.Result.{result_unwrap_or};
@@ -312,7 +312,7 @@ fn raise(count: &mut u64) -> Failed
     Failed
 }
 
-// Puts a copy of the name after the others.
+/// Puts a copy of the name after the others.
 fn push_name(alloc: Global, names: &mut Vec<String>, name: &str) -> Result<(), AllocError>
     ensures ok { OnOk result (map string_bytes names.new.items
         ≡ map string_bytes names.old.items ++ name.now ∷ []) }
@@ -322,7 +322,7 @@ fn push_name(alloc: Global, names: &mut Vec<String>, name: &str) -> Result<(), A
     Ok(())
 }
 
-// Makes the named file empty, and gives a copy of its name.
+/// Makes the named file empty, and gives a copy of its name.
 fn begin(alloc: Global, files: &mut FileTable, name: &str) -> Result<String, AllocError>
     ensures name { IfOk result (λ made. string_bytes made ≡ name.now) }
     ensures ok { OnOk result (files.new ≡ fin_map.insert files.old name.now []) }
