@@ -6,15 +6,17 @@ use Rattle.std.proofs.lemmas.Bool.{cases_eq}
 use Rattle.std.proofs.lemmas.List.Elements.{All-nil, All-cons, All-head, All-tail, All-contains, Contains-append_left, Contains-append_right}
 use Rattle.std.specs.Bool.{⊤}
 use Rattle.std.specs.List.{cons_option}
+use Rattle.bm_term.specs.declared.triple.Triple.{Triple}
 use Rattle.alg_model.specs.declared.pattern.Place.{Place}
 use Rattle.alg_model.specs.declared.pattern.Place.TheVariants as places
 use Rattle.alg_model.specs.declared.pattern.TriplePat.{TriplePat}
-use Rattle.alg_model.specs.Row.{Row, unbound, single, merged, both_rows, join}
+use Rattle.alg_model.specs.Row.{Row, unbound, single, merged, both_rows, join, binding}
 use Rattle.std.specs.Cmp.Lexicographic.{bytes_decides}
 use Rattle.alg_model.specs.Pattern.{Bgp, HasVarsBelow, place_vars, triple_vars}
 use Rattle.alg_model.specs.Eval.{Interpretation, place_row, match_of, matches_of, bgp_rows, as_terms}
-use Rattle.alg_model.specs.Solution.{binding, BindsJust, Becomes, Makes, IsSolution, AreSolutions, IsFaithful}
-use Rattle.alg_model.proofs.Lists.{filter_map_as_flat_map, Contains-head, Contains-nil, Contains-single, Contains-flat_map, source-flat_map, AllPairs-option, once-flat_map}
+use Rattle.alg_model.specs.Solution.{BindsJust, Becomes, Makes, IsSolution, AreSolutions, TellsValues, HasOneValue, TellsTriples}
+use Rattle.bm_term.proofs.Elements.{Contains-head, Contains-nil, Contains-single}
+use Rattle.alg_model.proofs.Lists.{filter_map_as_flat_map, Contains-flat_map, source-flat_map, AllPairs-option, once-flat_map}
 use Rattle.alg_model.proofs.Width.{width-unbound, width-single}
 use Rattle.alg_model.proofs.Cells.{IsSome-from_value, binding-unbound, binding-single_same, binding-single_other, same_rows}
 use Rattle.alg_model.proofs.Joins.{unbound_elsewhere, IsRowOf, AreRowsOf, LooksAt, LooksAt-both, rows-join, once-join}
@@ -96,7 +98,7 @@ both_rows_as_join test None s = refl
 both_rows_as_join test (Some r) None = refl
 both_rows_as_join test (Some r) (Some s) = option_as_list (merged test r s)
 
-module _ {V X : Type 0} (interpretation : Interpretation V X) (faithful : IsFaithful interpretation) (n : ℕ) where
+module _ {V X : Type 0} (interpretation : Interpretation V X) (tells : TellsValues interpretation) (n : ℕ) where
   -- ---- a place
 
   -- what a place matches is the row that binds just its variable and makes it the value
@@ -108,11 +110,6 @@ module _ {V X : Type 0} (interpretation : Interpretation V X) (faithful : IsFait
   looks_place : (place : Place) (value : V) → LooksAt (place_vars place) (λ row. Becomes interpretation row place value)
   looks_place (places.Term text) value = record { along = λ r s same is. is }
   looks_place (places.Var var) value = record { along = λ r s same is. sym (same var.0 (Contains-head var.0 [])) ∙ is }
-
-  -- a place becomes one value under one row
-  one_place : (place : Place) (row : Row V) (v w : V) → Becomes interpretation row place v → Becomes interpretation row place w → v ≡ w
-  one_place (places.Term text) row v w p q = faithful.one_value v w text p q
-  one_place (places.Var var) row v w p q = cc
 
   -- ---- a triple pattern and a triple
 
@@ -151,19 +148,12 @@ module _ {V X : Type 0} (interpretation : Interpretation V X) (faithful : IsFait
       let are_s = rows_of_place pattern.subject (interpretation.subject triple) (λ k at. below_first k (Contains-append_left s p k at)) in
       let are_p = rows_of_place pattern.predicate (interpretation.predicate triple) (λ k at. below_first k (Contains-append_right s p k at)) in
       let are_o = rows_of_place pattern.object (interpretation.object triple) (λ k at. below k (Contains-append_right (s ++ p) o k at)) in
-      let first = rows-join test faithful.same n s p S P (option_to_list rs) (option_to_list rp) are_s are_p looks_s looks_p in
+      let first = rows-join test tells n s p S P (option_to_list rs) (option_to_list rp) are_s are_p looks_s looks_p in
       let both = join test (option_to_list rs) (option_to_list rp) in
-      let all = rows-join test faithful.same n (s ++ p) o (λ row. S row × P row) O both (option_to_list ro) first are_o (LooksAt-both s p S P looks_s looks_p) looks_o in
+      let all = rows-join test tells n (s ++ p) o (λ row. S row × P row) O both (option_to_list ro) first are_o (LooksAt-both s p S P looks_s looks_p) looks_o in
       let list = both_rows_as_join test (both_rows test rs rp) ro ∙ ap (λ rows. join test rows (option_to_list ro)) (both_rows_as_join test rs rp) in
       AreRowsOf-same n (triple_vars pattern) (triple_vars pattern) (λ row. (S row × P row) × O row) (λ row. Makes interpretation row pattern triple) (join test both (option_to_list ro)) (option_to_list (match_of interpretation n pattern triple)) refl list
       (λ row. (λ h. record { subject = h.0.0; predicate = h.0.1; object = h.1 }, λ m. ((m.subject, m.predicate), m.object))) all
-
-  -- two triples that a triple pattern becomes under one row are one
-  one_made : (pattern : TriplePat) (row : Row V) (t u : X) → Makes interpretation row pattern t → Makes interpretation row pattern u → t ≡ u
-  one_made pattern row t u p q = faithful.one_triple t u
-      (one_place pattern.subject row (interpretation.subject t) (interpretation.subject u) p.subject q.subject)
-      (one_place pattern.predicate row (interpretation.predicate t) (interpretation.predicate u) p.predicate q.predicate)
-      (one_place pattern.object row (interpretation.object t) (interpretation.object u) p.object q.object)
 
   -- ---- a triple pattern and a list of triples
 
@@ -196,12 +186,26 @@ module _ {V X : Type 0} (interpretation : Interpretation V X) (faithful : IsFait
               ((are one.1).complete row (record { width = is.width; binds = is.binds; holds = one.4 }));
         })
 
+    -- under one row a place becomes one value of the triples
+    one_place : (place : Place) (part : X → V) → HasOneValue interpretation part triples → (row : Row V) (t u : X) → Contains triples t → Contains triples u →
+        Becomes interpretation row place (part t) → Becomes interpretation row place (part u) → part t ≡ part u
+    one_place (places.Term text) part one row t u at_t at_u p q = one t u text at_t at_u p q
+    one_place (places.Var var) part one row t u at_t at_u p q = cc
+
+    -- two of the triples that a triple pattern becomes under one row are one
+    one_made : TellsTriples interpretation triples → (pattern : TriplePat) (row : Row V) (t u : X) → Contains triples t → Contains triples u →
+        Makes interpretation row pattern t → Makes interpretation row pattern u → t ≡ u
+    one_made apart pattern row t u at_t at_u p q = apart.one_triple t u at_t at_u
+        (one_place pattern.subject interpretation.subject apart.subjects row t u at_t at_u p.subject q.subject)
+        (one_place pattern.predicate interpretation.predicate apart.predicates row t u at_t at_u p.predicate q.predicate)
+        (one_place pattern.object interpretation.object apart.objects row t u at_t at_u p.object q.object)
+
     -- no match stands twice
-    once_matches : (pattern : TriplePat) → AreBelow n (triple_vars pattern) → AllPairs (λ t u. t ≢ u) triples → AllPairs (λ r s. r ≢ s) (matches_of interpretation n pattern triples)
-    once_matches pattern below once =
+    once_matches : TellsTriples interpretation triples → (pattern : TriplePat) → AreBelow n (triple_vars pattern) → AllPairs (λ t u. t ≢ u) triples → AllPairs (λ r s. r ≢ s) (matches_of interpretation n pattern triples)
+    once_matches apart pattern below once =
         subst (AllPairs (λ r s. r ≢ s)) (sym (matches_as_flat_map pattern))
         (once-flat_map (λ t. option_to_list (match_of interpretation n pattern t)) triples once (λ t _. AllPairs-option (λ r s. r ≢ s) (match_of interpretation n pattern t))
-        (λ t u row _ _ at at'. one_made pattern row t u ((rows_of_match pattern t below).sound row at).holds ((rows_of_match pattern u below).sound row at').holds))
+        (λ t u row at_t at_u at at'. one_made apart pattern row t u at_t at_u ((rows_of_match pattern t below).sound row at).holds ((rows_of_match pattern u below).sound row at').holds))
 
     -- ---- a list of triple patterns
 
@@ -221,7 +225,7 @@ module _ {V X : Type 0} (interpretation : Interpretation V X) (faithful : IsFait
     rows_of_step : (vs : List ℕ) (P : Row V → Type 0) (rows : List (Row V)) (pattern : TriplePat) → LooksAt vs P → AreRowsOf n vs P rows → AreBelow n (triple_vars pattern) →
         AreRowsOf n (vs ++ triple_vars pattern) (λ row. P row × MakesOne pattern row) (step rows pattern)
     rows_of_step vs P rows pattern looks are below =
-        rows-join interpretation.same faithful.same n vs (triple_vars pattern) P (MakesOne pattern) rows (matches_of interpretation n pattern triples) are (rows_of_matches pattern below) looks (looks_makes_one pattern)
+        rows-join interpretation.same tells n vs (triple_vars pattern) P (MakesOne pattern) rows (matches_of interpretation n pattern triples) are (rows_of_matches pattern below) looks (looks_makes_one pattern)
 
     -- a list of triple patterns: the rows make each of them one of the triples
     rows_of_fold : (patterns : List TriplePat) (vs : List ℕ) (P : Row V → Type 0) (rows : List (Row V)) → LooksAt vs P → AreRowsOf n vs P rows → AreBelow n (flat_map triple_vars patterns) →
@@ -241,15 +245,15 @@ module _ {V X : Type 0} (interpretation : Interpretation V X) (faithful : IsFait
         (λ row. (λ h. (h.0.0, All-cons (made row) pattern patterns h.0.1 h.1), λ h. ((h.0, All-head (made row) pattern patterns h.1), All-tail (made row) pattern patterns h.1))) later
 
     -- no row stands twice
-    once_fold : AllPairs (λ t u. t ≢ u) triples → (patterns : List TriplePat) (vs : List ℕ) (P : Row V → Type 0) (rows : List (Row V)) → LooksAt vs P → AreRowsOf n vs P rows → AreBelow n (flat_map triple_vars patterns) →
+    once_fold : TellsTriples interpretation triples → AllPairs (λ t u. t ≢ u) triples → (patterns : List TriplePat) (vs : List ℕ) (P : Row V → Type 0) (rows : List (Row V)) → LooksAt vs P → AreRowsOf n vs P rows → AreBelow n (flat_map triple_vars patterns) →
         AllPairs (λ r s. r ≢ s) rows → AllPairs (λ r s. r ≢ s) (fold step rows patterns)
-    once_fold distinct [] vs P rows looks are below once = once
-    once_fold distinct (pattern ∷ patterns) vs P rows looks are below once =
+    once_fold apart distinct [] vs P rows looks are below once = once
+    once_fold apart distinct (pattern ∷ patterns) vs P rows looks are below once =
         let first = below_first pattern patterns below in
         let mine = triple_vars pattern in
-        once_fold distinct patterns (vs ++ mine) (λ row. P row × MakesOne pattern row) (step rows pattern) (LooksAt-both vs mine P (MakesOne pattern) looks (looks_makes_one pattern))
+        once_fold apart distinct patterns (vs ++ mine) (λ row. P row × MakesOne pattern row) (step rows pattern) (LooksAt-both vs mine P (MakesOne pattern) looks (looks_makes_one pattern))
         (rows_of_step vs P rows pattern looks are first) (below_rest pattern patterns below)
-        (once-join interpretation.same faithful.same n vs mine P (MakesOne pattern) rows (matches_of interpretation n pattern triples) are (rows_of_matches pattern first) once (once_matches pattern first distinct))
+        (once-join interpretation.same tells n vs mine P (MakesOne pattern) rows (matches_of interpretation n pattern triples) are (rows_of_matches pattern first) once (once_matches apart pattern first distinct))
 
   -- ---- a basic graph pattern
 
@@ -271,19 +275,28 @@ module _ {V X : Type 0} (interpretation : Interpretation V X) (faithful : IsFait
       )
 
   -- over triples without repeats no row of it stands twice
-  pub basic-once : (patterns : List TriplePat) (triples : List X) → HasVarsBelow n (Bgp patterns) → AllPairs (λ t u. t ≢ u) triples → AllPairs (λ r s. r ≢ s) (bgp_rows interpretation n patterns triples)
-  basic-once patterns triples below distinct =
+  pub basic-once : (patterns : List TriplePat) (triples : List X) → TellsTriples interpretation triples → HasVarsBelow n (Bgp patterns) → AllPairs (λ t u. t ≢ u) triples → AllPairs (λ r s. r ≢ s) (bgp_rows interpretation n patterns triples)
+  basic-once patterns triples apart below distinct =
       let vars = flat_map triple_vars patterns in
-      once_fold triples distinct patterns [] (λ row. ⊤) (unbound V n ∷ []) looks_none rows_of_none (λ k at. All-contains (λ k. k < n) vars k below at) (AllPairs-option (λ r s. r ≢ s) (Some (unbound V n)))
+      once_fold triples apart distinct patterns [] (λ row. ⊤) (unbound V n ∷ []) looks_none rows_of_none (λ k at. All-contains (λ k. k < n) vars k below at) (AllPairs-option (λ r s. r ≢ s) (Some (unbound V n)))
 
   -- both in one
-  pub basic-solutions : (patterns : List TriplePat) (triples : List X) → HasVarsBelow n (Bgp patterns) → AllPairs (λ t u. t ≢ u) triples → AreSolutions interpretation n patterns triples (bgp_rows interpretation n patterns triples)
-  basic-solutions patterns triples below distinct = record { exactly = basic-exactly patterns triples below; once = basic-once patterns triples below distinct }
+  pub basic-solutions : (patterns : List TriplePat) (triples : List X) → TellsTriples interpretation triples → HasVarsBelow n (Bgp patterns) → AllPairs (λ t u. t ≢ u) triples → AreSolutions interpretation n patterns triples (bgp_rows interpretation n patterns triples)
+  basic-solutions patterns triples apart below distinct = record { exactly = basic-exactly patterns triples below; once = basic-once patterns triples apart below distinct }
 
--- values and triples of terms are told apart by their texts
-pub as_terms_faithful : IsFaithful as_terms
-as_terms_faithful = record {
-  same = λ v w. bytes_decides v w;
-  one_value = λ v w text p q. (bytes_decides v text).0 p ∙ sym ((bytes_decides w text).0 q);
-  one_triple = λ t u s p o. λ i. record { subject = s i; predicate = p i; object = o i };
+-- values of terms are told apart by their texts
+pub as_terms-values : TellsValues as_terms
+as_terms-values v w = bytes_decides v w
+
+-- a text is the value that stands for it
+text_is_value : {X : Type 0} (place : X → List ℕ) (t u : X) (text : List ℕ) → IsTrue (as_terms.stands_for (place t) text) → IsTrue (as_terms.stands_for (place u) text) → place t ≡ place u
+text_is_value place t u text p q = (bytes_decides (place t) text).0 p ∙ sym ((bytes_decides (place u) text).0 q)
+
+-- and so are triples of terms
+pub as_terms-triples : (triples : List Triple) → TellsTriples as_terms triples
+as_terms-triples triples = record {
+  subjects = λ t u text _ _. text_is_value as_terms.subject t u text;
+  predicates = λ t u text _ _. text_is_value as_terms.predicate t u text;
+  objects = λ t u text _ _. text_is_value as_terms.object t u text;
+  one_triple = λ t u _ _ s p o. λ i. record { subject = s i; predicate = p i; object = o i };
 }

@@ -3,8 +3,7 @@ use Rattle.std.proofs.Common.{◌≡◌, ◌≢◌, ◌↔◌, ℕ, zero, suc, �
 use Rattle.std.proofs.lemmas.Bool.{and_parts, and_from, cases_lt}
 use Rattle.std.proofs.lemmas.List.{ext_get_or, get_or_past, get_or-replicate, get_or-set_same, get_or-set_other}
 use Rattle.std.proofs.lemmas.Option.{cond_some}
-use Rattle.alg_model.specs.Row.{Row, unbound, single, cells_agree, are_compatible, merge, merge_cells, merged}
-use Rattle.alg_model.specs.Solution.{binding}
+use Rattle.alg_model.specs.Row.{Row, unbound, single, cells_agree, are_compatible, merge, merge_cells, merged, binding}
 use Rattle.alg_model.proofs.Width.{HasWidth, width-unbound, width-merge}
 
 -- a cell is bound or not

@@ -1,5 +1,5 @@
 -- Worked examples, by computation: small patterns over a few triples, a solution, and queries within the limits.
-use Rattle.std.proofs.Common.{◌≡◌, ◌≢◌, ℕ, zero, suc, ◌<◌, List, [], ◌∷◌, get_or, All, Any, IsUtf8, IsAscii, Some, None, Bool, true, false, codes, refl, sym, ◌∙◌, ap, arith, lit≤, lit<}
+use Rattle.std.proofs.Common.{◌≡◌, ◌≢◌, ℕ, zero, suc, ◌<◌, List, [], ◌∷◌, get_or, All, Any, IsUtf8, IsAscii, Option, Some, None, inl, inr, Bool, true, false, codes, refl, sym, ◌∙◌, ap, subst, arith, lit≤, lit<}
 use Rattle.std.proofs.lemmas.List.Elements.{All-nil, All-cons, All-from_recursion}
 use Rattle.std.proofs.lemmas.Str.{IsUtf8-from_ascii}
 use Rattle.bm_term.specs.declared.triple.Triple.{Triple}
@@ -8,13 +8,14 @@ use Rattle.alg_model.specs.declared.pattern.Place.TheVariants as places
 use Rattle.alg_model.specs.declared.pattern.TriplePat.{TriplePat}
 use Rattle.alg_model.specs.declared.pattern.Pattern.TheVariants as patterns
 use Rattle.alg_model.specs.declared.query.Query.{Query}
-use Rattle.alg_model.specs.Row.{join}
-use Rattle.alg_model.specs.Pattern.{Bgp, Join, LeftJoin, algebra_of}
+use Rattle.alg_model.specs.Row.{join, binding, Extends, BindsMore}
+use Rattle.alg_model.specs.Pattern.{Bgp, Join, LeftJoin, algebra_of, IsVar, StandsAtPredicate, StandsAtNode}
 use Rattle.alg_model.specs.Eval.{as_terms, eval}
 use Rattle.alg_model.specs.Solution.{BindsJust, Makes, IsSolution}
 use Rattle.alg_model.specs.Answers.{answers_of}
 use Rattle.alg_model.specs.Limits.{KeepsLimits}
-use Rattle.alg_model.proofs.Lists.{Contains-head, Contains-single, AllPairs-append, AllPairs-option}
+use Rattle.bm_term.proofs.Elements.{Contains-head, Contains-single}
+use Rattle.alg_model.proofs.Lists.{AllPairs-append, AllPairs-option}
 
 -- three terms that are subjects and objects, and one predicate
 abbrev a : List ℕ
@@ -98,6 +99,32 @@ boxed_join list other p q = refl
 
 boxed_left_join : (list other : List TriplePat) → (p q : _) → algebra_of (patterns.LeftJoin' p (patterns.Bgp list) q (patterns.Bgp other)) ≡ LeftJoin (Bgp list) (Bgp other)
 boxed_left_join list other p q = refl
+
+-- ---- rows that extend others
+
+-- a row that binds one variable more extends a row, and binds more
+extended : Extends (Some a ∷ Some b ∷ []) (Some a ∷ None ∷ []) × BindsMore (Some a ∷ Some b ∷ []) (Some a ∷ None ∷ [])
+extended = (λ var value is. step var value is, (1, refl, refl)) where
+  step : (var : ℕ) (value : List ℕ) → binding (Some a ∷ None ∷ []) var ≡ Some value → binding (Some a ∷ Some b ∷ []) var ≡ Some value
+  step zero value is = is
+  step (suc zero) value is = cc
+  step (suc (suc var)) value is = is
+
+-- a row with another value does not
+not_extended : ¬ Extends (Some a ∷ []) (Some b ∷ [])
+not_extended extends = let is = extends 0 b refl in let letters : ◌≡◌ {A = ℕ} 97 98 = ap (λ cell. get_or (text cell) 1 0) is in omega arith where
+  text : Option (List ℕ) → List ℕ
+  text (Some value) = value
+  text None = []
+
+-- ---- where a variable stands
+
+-- ?x p ?y: both variables are nodes, and none is a predicate
+nodes : StandsAtNode (Bgp (pattern x y 1 ∷ [])) 0 × StandsAtNode (Bgp (pattern x y 1 ∷ [])) 1
+nodes = ((0, pattern x y 1, lit< tt, refl, inl refl), (0, pattern x y 1, lit< tt, refl, inr refl))
+
+no_predicate : (var : ℕ) → ¬ StandsAtPredicate (Bgp (pattern x y 1 ∷ [])) var
+no_predicate var stands = let one = Contains-single (pattern x y 1) stands.1 (stands.0, stands.2, stands.3) in subst (λ triple. IsVar triple.predicate var) (sym one) stands.4
 
 -- ---- answers
 

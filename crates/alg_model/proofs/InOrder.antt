@@ -1,17 +1,18 @@
--- A list in ascending order is the only ascending one of its items, where only equal items tie. So is the list of
--- each item once, in order, which is what is left of a sorted list where no item stands beside an equal one.
-use Rattle.std.proofs.Common.{◌≡◌, ℕ, suc, add-one, ◌+◌, ◌<◌, ◌≤◌, Bool, true, false, ◌||◌, cond, if◌then◌else◌, List, [], ◌∷◌, length, get_or, refl, arith, sym, ◌∙◌, ap, IsPermutation, IsSorted}
-use Rattle.std.proofs.lemmas.List.Kept.{IsStrictlySortedBy-dedup}
-use Rattle.std.proofs.lemmas.List.Sorted.{ranks_by, sorted_far, sum_by-IsPermutation, list_any-IsPermutation}
+-- A list in ascending order is the only ascending one of its items, where only equal items tie. Without what stands
+-- beside an equal item it is their set.
+use Rattle.std.proofs.Common.{◌≡◌, ◌↔◌, ℕ, zero, suc, add-one, ◌+◌, ◌<◌, ◌≤◌, Bool, true, false, cond, if◌then◌else◌, List, [], ◌∷◌, length, get_or, refl, arith, sym, ◌∙◌, ap, subst, IsPermutation, IsSorted}
+use Rattle.std.proofs.lemmas.List.Kept.{IsStrictlySortedBy-dedup, Contains-from_dedup, Contains-dedup}
+use Rattle.std.proofs.lemmas.List.Sorted.{ranks_by, sorted_far, sum_by-IsPermutation, IsPermutation-refl, IsPermutation-sym, IsPermutation-trans, IsPermutation-cons, IsPermutation-middle, Contains-permutation}
 use Rattle.std.proofs.lemmas.List.Sums.{sum_by-cons}
 use Rattle.std.proofs.lemmas.Map.Lookups.{CmpEqualImpliesEq}
-use Rattle.std.specs.List.{sum_by, list_any, dedup, dedup_from, AllByRecursion}
-use Rattle.std.specs.List.Sorted.{IsStrictlySortedBy}
-use Rattle.std.specs.Cmp.{IsTotalOrder, IsStrictWeakOrder}
+use Rattle.std.specs.List.{sum_by, dedup}
+use Rattle.std.specs.Cmp.{IsTotalOrder, IsStrictWeakOrder, IsEquivalence, eq_by_cmp_equiv}
 use Rattle.std.specs.Ordering.{is_lt, is_eq, eq_by_cmp, ordering_reverse}
 use Rattle.std.specs.declared.cmp.Ordering.{Ordering}
 use Rattle.std.specs.declared.cmp.Ordering.TheVariants.{Less, Equal, Greater}
-use Rattle.alg_model.specs.Answers.{each_once, put_in_order, in_order}
+use Rattle.bm_term.specs.SetOf.{set_of}
+use Rattle.bm_term.proofs.Sets.{one_set}
+use Rattle.alg_model.specs.Answers.{put_in_order, in_order}
 
 module _ {X : Type 0} (cmp : X → X → Ordering) (o : IsTotalOrder cmp) (exact : CmpEqualImpliesEq cmp) where
   abbrev lt : X → X → Bool
@@ -149,105 +150,46 @@ module _ {X : Type 0} (cmp : X → X → Ordering) (o : IsTotalOrder cmp) (exact
       only_one ys (in_order cmp xs) (Rises-from_sorted ys sorted) (Rises-in_order xs)
       (λ q. sym (count-sum q ys) ∙ sum_by-IsPermutation (tick q) xs ys moved ∙ count-sum q xs ∙ sym (count-in_order xs q))
 
-  -- ---- each item once
+  -- an item at its place among others is the first of them in another order
+  IsPermutation-put : (x : X) (ys : List X) → IsPermutation (x ∷ ys) (put_in_order cmp x ys)
+  IsPermutation-put x [] = IsPermutation-refl (x ∷ [])
+  IsPermutation-put x (y ∷ ys) =
+      elim (lt y x) as (λ b. IsPermutation (x ∷ y ∷ ys) (if b then y ∷ put_in_order cmp x ys else x ∷ y ∷ ys)) [
+        | true ↦ IsPermutation-trans (x ∷ y ∷ ys) (y ∷ x ∷ ys) (y ∷ put_in_order cmp x ys) (IsPermutation-middle (x ∷ []) y ys) (IsPermutation-cons y (x ∷ ys) (put_in_order cmp x ys) (IsPermutation-put x ys))
+        | false ↦ IsPermutation-refl (x ∷ y ∷ ys)
+      ]
 
-  -- whether x is in the list
-  abbrev present : X → List X → Bool
-  present x xs = list_any (λ y. is_eq (cmp x y)) xs
+  -- so the list in order has the items in another order
+  IsPermutation-in_order : (xs : List X) → IsPermutation xs (in_order cmp xs)
+  IsPermutation-in_order [] = IsPermutation-refl []
+  IsPermutation-in_order (x ∷ xs) =
+      IsPermutation-trans (x ∷ xs) (x ∷ in_order cmp xs) (put_in_order cmp x (in_order cmp xs)) (IsPermutation-cons x xs (in_order cmp xs) (IsPermutation-in_order xs)) (IsPermutation-put x (in_order cmp xs))
 
-  -- no item stands twice
-  abbrev Once : List X → Type 0
-  Once [] = Unit {0}
-  Once (x ∷ xs) = (present x xs ≡ false) × Once xs
+  -- a list that rises is sorted
+  IsSorted-from_rises : (xs : List X) → Rises xs → IsSorted cmp xs
+  IsSorted-from_rises xs rises k d low high = each xs rises k d high where
+    each : (xs : List X) → Rises xs → (k : ℕ) (d : X) → k + 1 < length xs → lt (get_or xs (k + 1) d) (get_or xs k d) ≡ false
+    each [] r k d high = absurd (omega arith)
+    each (x ∷ []) r k d high = absurd (omega arith)
+    each (x ∷ y ∷ ys) r zero d high = r.0.0
+    each (x ∷ y ∷ ys) r (suc k) d high = let h = each (y ∷ ys) r.1 k d (omega arith) in rw add-one (rw add-one at h)
 
-  -- items that tie are the same
-  tied : (x y : X) → is_eq (cmp x y) ≡ true → x ≡ y
-  tied x y h = exact x y (equal_from_test (cmp x y) h)
+  -- the list in order is the sorted list of the items
+  pub in_order-exactly : (xs ys : List X) → (ys ≡ in_order cmp xs) ↔ (IsPermutation xs ys × IsSorted cmp ys)
+  in_order-exactly xs ys = (
+    λ is. (subst (IsPermutation xs) (sym is) (IsPermutation-in_order xs), subst (IsSorted cmp) (sym is) (IsSorted-from_rises (in_order cmp xs) (Rises-in_order xs))),
+    λ h. in_order-is xs ys h.0 h.1,
+  )
 
-  -- where no item stands twice, one that is in the list stands there once
-  count-once : (q : X) (xs : List X) → Once xs → count q xs ≡ cond (present q xs) 1 0
-  count-once q [] once = refl
-  count-once q (x ∷ xs) once =
-      elim (is_eq (cmp q x)) as (λ b. is_eq (cmp q x) ≡ b → cond b 1 0 + count q xs ≡ cond (b || present q xs) 1 0) [
-        | true ↦ λ e.
-            let none : present q xs ≡ false = ap (λ x. present x xs) (tied q x e) ∙ once.0 in
-            omega (arith, count-once q xs once.1, ap {B = ℕ} (λ b. cond b 1 0) none)
-        | false ↦ λ _. omega (arith, count-once q xs once.1)
-      ] refl
-
-  -- an item that is in the list adds nothing
-  absorbed : (q x : X) (xs : List X) → present x xs ≡ true → (is_eq (cmp q x) || present q xs) ≡ present q xs
-  absorbed q x xs there =
-      elim (is_eq (cmp q x)) as (λ b. is_eq (cmp q x) ≡ b → (b || present q xs) ≡ present q xs) [
-        | true ↦ λ e. sym (ap (λ x. present x xs) (tied q x e) ∙ there)
-        | false ↦ λ _. refl
-      ] refl
-
-  -- the same items are in the list of each once
-  present-each_once : (q : X) (xs : List X) → present q (each_once cmp xs) ≡ present q xs
-  present-each_once q [] = refl
-  present-each_once q (x ∷ xs) =
-      elim (present x xs) as (λ b. present x xs ≡ b → present q (if b then each_once cmp xs else x ∷ each_once cmp xs) ≡ (is_eq (cmp q x) || present q xs)) [
-        | true ↦ λ there. present-each_once q xs ∙ sym (absorbed q x xs there)
-        | false ↦ λ _. ap (λ b. is_eq (cmp q x) || b) (present-each_once q xs)
-      ] refl
-
-  Once-each_once : (xs : List X) → Once (each_once cmp xs)
-  Once-each_once [] = tt
-  Once-each_once (x ∷ xs) =
-      elim (present x xs) as (λ b. present x xs ≡ b → Once (if b then each_once cmp xs else x ∷ each_once cmp xs)) [
-        | true ↦ λ _. Once-each_once xs
-        | false ↦ λ new. (present-each_once x xs ∙ new, Once-each_once xs)
-      ] refl
-
-  -- an item is less than none of those above it, and not among them
-  NoneLess-above : (x : X) (xs : List X) → AllByRecursion (λ y. cmp x y ≡ Less) xs → NoneLess x xs
-  NoneLess-above x [] above = tt
-  NoneLess-above x (y ∷ xs) above = (order.one_way x y (ap is_lt above.0), NoneLess-above x xs above.1)
-
-  not_present-above : (x : X) (xs : List X) → AllByRecursion (λ y. cmp x y ≡ Less) xs → present x xs ≡ false
-  not_present-above x [] above = refl
-  not_present-above x (y ∷ xs) above = ap (λ r. is_eq r || present x xs) above.0 ∙ not_present-above x xs above.1
-
-  -- so a list that strictly ascends rises, and no item stands twice
-  Rises-strictly : (xs : List X) → IsStrictlySortedBy cmp xs → Rises xs
-  unfolding IsStrictlySortedBy
-  Rises-strictly [] h = tt
-  Rises-strictly (x ∷ xs) h = (NoneLess-above x xs h.0, Rises-strictly xs h.1)
-
-  Once-strictly : (xs : List X) → IsStrictlySortedBy cmp xs → Once xs
-  unfolding IsStrictlySortedBy
-  Once-strictly [] h = tt
-  Once-strictly (x ∷ xs) h = (not_present-above x xs h.0, Once-strictly xs h.1)
-
-  twice_is_once : (a b : Bool) → (a || b) ≡ (a || (a || b))
-  twice_is_once true b = refl
-  twice_is_once false b = refl
-
-  module _ (same : X → X → Bool) (ties : (x y : X) → same x y ≡ eq_by_cmp cmp x y) where
-    -- to leave out an item beside an equal one leaves the same items
-    present-dedup_from : (q k : X) (xs : List X) → present q (dedup_from same k xs) ≡ present q (k ∷ xs)
-    present-dedup_from q k [] = refl
-    present-dedup_from q k (x ∷ xs) =
-        elim (same x k) as (λ b. same x k ≡ b → present q (cond b (dedup_from same k xs) (k ∷ dedup_from same x xs)) ≡ present q (k ∷ x ∷ xs)) [
-          | true ↦ λ e.
-              let one : k ≡ x = sym (tied x k (sym (ties x k) ∙ e)) in
-              present-dedup_from q k xs ∙ twice_is_once (is_eq (cmp q k)) (present q xs)
-              ∙ ap (λ z. is_eq (cmp q k) || (is_eq (cmp q z) || present q xs)) one
-          | false ↦ λ _. ap (λ b. is_eq (cmp q k) || b) (present-dedup_from q x xs)
-        ] refl
-
-    present-dedup : (q : X) (xs : List X) → present q (dedup same xs) ≡ present q xs
-    present-dedup q [] = refl
-    present-dedup q (x ∷ xs) = present-dedup_from q x xs
-
-    -- a sorted permutation, without what stands beside an equal item, is each item once, in order
-    pub in_order-each_once : (xs ys : List X) → IsPermutation xs ys → IsSorted cmp ys → dedup same ys ≡ in_order cmp (each_once cmp xs)
-    in_order-each_once xs ys moved sorted =
-        let left = dedup same ys in
-        let once = each_once cmp xs in
-        let ascends : IsStrictlySortedBy cmp left = IsStrictlySortedBy-dedup o ties ys sorted in
-        let there : (q : X) → present q left ≡ present q once = λ q.
-        present-dedup q ys ∙ sym (list_any-IsPermutation (λ y. is_eq (cmp q y)) xs ys moved) ∙ sym (present-each_once q xs) in
-        only_one left (in_order cmp once) (Rises-strictly left ascends) (Rises-in_order once)
-        (λ q. count-once q left (Once-strictly left ascends) ∙ ap (λ b. cond b 1 0) (there q) ∙ sym (count-once q once (Once-each_once xs)) ∙ sym (count-in_order once q))
+  -- a sorted permutation, without what stands beside an equal item, is the set of the list
+  pub set_of-dedup : (same : X → X → Bool) → ((x y : X) → same x y ≡ eq_by_cmp cmp x y) → (xs ys : List X) → IsPermutation xs ys → IsSorted cmp ys → dedup same ys ≡ set_of cmp xs
+  set_of-dedup same ties xs ys moved sorted =
+      let back = IsPermutation-sym xs ys moved in
+      let equals : IsEquivalence same = subst IsEquivalence (λ i x y. sym (ties x y) i) (eq_by_cmp_equiv o) in
+      one_set cmp o exact xs (dedup same ys) (record {
+        ascends = IsStrictlySortedBy-dedup o ties ys sorted;
+        same = λ x. (
+          λ at. Contains-permutation ys xs x back (Contains-from_dedup same ys x at),
+          λ at. Contains-dedup equals (λ a b h. exact a b (equal_from_test (cmp a b) (sym (ties a b) ∙ h))) ys x (Contains-permutation xs ys x moved at),
+        );
+      })

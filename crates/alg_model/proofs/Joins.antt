@@ -6,8 +6,8 @@ use Rattle.std.proofs.lemmas.List.FromFn.{length-map-range_with_len, get_or-map-
 use Rattle.std.proofs.lemmas.List.Elements.{Contains-append_left, Contains-append_right, Contains-append_cases}
 use Rattle.std.proofs.lemmas.List.Folds.{list_any_at, Any-from_list_any}
 use Rattle.std.specs.List.{list_any, range_with_len}
-use Rattle.alg_model.specs.Row.{Row, merged, join}
-use Rattle.alg_model.specs.Solution.{binding, BindsJust}
+use Rattle.alg_model.specs.Row.{Row, merged, join, binding}
+use Rattle.alg_model.specs.Solution.{BindsJust}
 use Rattle.alg_model.proofs.Lists.{filter_map_as_flat_map, Contains-option, option-Contains, Contains-flat_map, source-flat_map, AllPairs-option, once-flat_map}
 use Rattle.alg_model.proofs.Width.{HasWidth}
 use Rattle.alg_model.proofs.Cells.{cases_Option, value_from_IsSome, IsSome-from_value, binding_past, same_rows, IsUnion, union_from_merged, merged_from_union}

@@ -1,9 +1,10 @@
 -- Lists, of any items: what a `flat_map` has and has not, and a `filter_map` as one.
-use Rattle.std.proofs.Common.{◌≡◌, ◌≢◌, ℕ, zero, suc, ◌+◌, ◌-◌, ◌<◌, ◌++◌, ◌⊎◌, inl, inr, List, [], ◌∷◌, length, take, get_or, flat_map, filter, if◌then◌else◌, Bool, true, false, All, AllPairs, Contains, Option, Some, None, IfSome, option_to_list, refl, sym, ◌∙◌, ap, subst, arith}
+use Rattle.std.proofs.Common.{◌≡◌, ◌≢◌, ℕ, suc, ◌+◌, ◌-◌, ◌<◌, ◌++◌, inl, inr, List, [], ◌∷◌, length, take, get_or, flat_map, filter, if◌then◌else◌, Bool, true, false, All, AllPairs, Contains, Option, Some, None, IfSome, option_to_list, refl, sym, ◌∙◌, ap, subst, arith}
 use Rattle.std.proofs.lemmas.Bool.{cases_lt}
 use Rattle.std.proofs.lemmas.List.{take_more, get_or_append_left, get_or-append_right, length-append}
 use Rattle.std.proofs.lemmas.List.Elements.{filter_map-append, All-nil, All-cons, All-head, All-tail, All-append, All-contains, Contains-get_or, Contains-append_left, Contains-append_right, Contains-append_cases}
 use Rattle.std.specs.List.{filter_map, cons_option}
+use Rattle.bm_term.proofs.Elements.{Contains-head, Contains-tail, Contains-cons_cases, Contains-nil, Contains-single}
 
 -- an item that may be there, before nothing
 cons_option-nil : {Y : Type 0} (o : Option Y) → cons_option o [] ≡ option_to_list o
@@ -54,31 +55,6 @@ All-flat_map f P Q gives (x ∷ xs) all =
     All-append Q (f x) (flat_map f xs) (gives x (All-head P x xs all)) (All-flat_map f P Q gives xs (All-tail P x xs all))
 
 -- ---- which elements a list has
-
--- a list has its first item
-pub Contains-head : {X : Type 0} (x : X) (xs : List X) → Contains (x ∷ xs) x
-Contains-head x xs = (0, omega arith, refl)
-
--- and those of its rest
-pub Contains-tail : {X : Type 0} (x : X) (xs : List X) (y : X) → Contains xs y → Contains (x ∷ xs) y
-Contains-tail x xs y = Contains-append_right (x ∷ []) xs y
-
--- what stands at k is the first item, or stands in the rest
-at_cons : {X : Type 0} (x : X) (xs : List X) (y : X) (k : ℕ) → k < length (x ∷ xs) → get_or (x ∷ xs) k y ≡ y → (x ≡ y) ⊎ Contains xs y
-at_cons x xs y zero within is = inl is
-at_cons x xs y (suc k) within is = inr (k, omega arith, is)
-
--- an item is the first, or one of the rest
-pub Contains-cons_cases : {X : Type 0} (x : X) (xs : List X) (y : X) → Contains (x ∷ xs) y → (x ≡ y) ⊎ Contains xs y
-Contains-cons_cases x xs y h = at_cons x xs y h.0 h.1 h.2
-
--- the empty list has no item
-pub Contains-nil : {X : Type 0} (y : X) → Contains [] y → ⊥
-Contains-nil y h = let within = h.1 in omega arith
-
--- a list of one item has no other
-pub Contains-single : {X : Type 0} (x y : X) → Contains (x ∷ []) y → x ≡ y
-Contains-single x y h = elim (Contains-cons_cases x [] y h) as (λ _. x ≡ y) [ inl e ↦ e | inr none ↦ absurd (Contains-nil y none) ]
 
 -- an item that is there, in the list of it
 pub Contains-option : {X : Type 0} (o : Option X) (x : X) → o ≡ Some x → Contains (option_to_list o) x

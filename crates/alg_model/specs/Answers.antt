@@ -2,15 +2,15 @@
 -- The order of the rows is this project's: column by column, unbound before bound, terms by the bytes of their text.
 use Rattle.std.specs.Prelude.{ℕ, Bool, if◌then◌else◌, List, [], ◌∷◌, map, length, None, slice_index_or}
 use Rattle.std.specs.declared.cmp.Ordering.{Ordering}
-use Rattle.std.specs.List.{list_any}
 use Rattle.std.specs.Option.{option_cmp}
-use Rattle.std.specs.Ordering.{nat_cmp, is_lt, is_eq}
+use Rattle.std.specs.Ordering.{nat_cmp, is_lt}
 use Rattle.std.specs.Cmp.Lexicographic.{slice_cmp}
+use Rattle.bm_term.specs.SetOf.{set_of}
 use Rattle.bm_term.specs.declared.triple.Triple.{Triple}
 use Rattle.alg_model.specs.declared.var.Var.{Var}
 use Rattle.alg_model.specs.declared.query.Query.{Query}
 use Rattle.alg_model.specs.Row.{Row}
-use Rattle.alg_model.specs.Pattern.{Algebra, algebra_of}
+use Rattle.alg_model.specs.Query.{AbstractQuery, abstract_of}
 use Rattle.alg_model.specs.Eval.{as_terms, eval}
 
 -- a row of texts compared with another
@@ -22,38 +22,25 @@ abbrev pub project : {V : Type 0} → List Var → Row V → Row V
 project columns row = map (λ column. slice_index_or row column.0 None) columns
 
 module _ {X : Type 0} (cmp : X → X → Ordering) where
-  -- equal items are kept once
-  abbrev pub each_once : List X → List X
-  each_once [] = []
-  each_once (x ∷ xs) = if list_any (λ y. is_eq (cmp x y)) xs then each_once xs else x ∷ each_once xs
-
-  -- an item behind the first ones that are less
+  -- an item after the first ones that are less
   abbrev pub put_in_order : X → List X → List X
   put_in_order x [] = x ∷ []
   put_in_order x (y ∷ ys) = if is_lt (cmp y x) then y ∷ put_in_order x ys else x ∷ y ∷ ys
 
-  -- the items in ascending order
+  -- the items in ascending order, each as often as there
   abbrev pub in_order : List X → List X
   in_order [] = []
   in_order (x ∷ xs) = put_in_order x (in_order xs)
 
--- a query as data without boxes, which is what its text denotes. SPARQL 1.1 Query, section 18.2.
-pub record AbstractQuery : Type 0 where
-  pub names : List (List ℕ)
-  pub pattern : Algebra
-  pub columns : List Var
-  pub distinct : Bool
+-- rows cut to the columns, in order: with DISTINCT each once, and else each as often as there
+abbrev pub arranged : List Var → Bool → List (Row (List ℕ)) → List (Row (List ℕ))
+arranged columns distinct rows =
+    let projected = map (project columns) rows in
+    if distinct then set_of row_cmp projected else in_order row_cmp projected
 
--- what a query of the code is
-abbrev pub abstract_of : Query → AbstractQuery
-abstract_of query = record { names = query.names; pattern = algebra_of query.pattern; columns = query.columns; distinct = query.distinct }
-
--- the answers over triples: projection, DISTINCT, order
+-- the answers over triples
 abbrev pub answers_to : AbstractQuery → List Triple → List (Row (List ℕ))
-answers_to query triples =
-    let rows = eval as_terms (length query.names) query.pattern triples in
-    let projected = map (project query.columns) rows in
-    in_order row_cmp (if query.distinct then each_once row_cmp projected else projected)
+answers_to query triples = arranged query.columns query.distinct (eval as_terms (length query.names) query.pattern triples)
 
 abbrev pub answers_of : Query → List Triple → List (Row (List ℕ))
 answers_of query triples = answers_to (abstract_of query) triples

@@ -2,5 +2,8 @@ pub mod Answers
 pub mod Eval
 pub mod Limits
 pub mod Pattern
+pub mod Query
 pub mod Row
 pub mod Solution
+pub mod VarSet
+pub mod WellDesigned

@@ -1,5 +1,5 @@
 -- Graph patterns as data without boxes. SPARQL 1.1 Query, sections 18.1.5, 18.1.6 and 18.2.
-use Rattle.std.specs.Prelude.{◌<◌, ℕ, List, [], ◌∷◌, ◌++◌, All}
+use Rattle.std.specs.Prelude.{◌≡◌, ◌<◌, ◌+◌, ◌⊎◌, ℕ, List, [], ◌∷◌, ◌++◌, All, Any}
 use Rattle.std.specs.List.{flat_map}
 use Rattle.alg_model.specs.declared.pattern.Place.{Place}
 use Rattle.alg_model.specs.declared.pattern.Place.TheVariants as places
@@ -34,3 +34,28 @@ vars_of (LeftJoin left right) = vars_of left ++ vars_of right
 -- each variable of the pattern has a number below n
 abbrev pub HasVarsBelow : ℕ → Algebra → Type 0
 HasVarsBelow n pattern = All (λ var. var < n) (vars_of pattern)
+
+-- the triple patterns of a pattern, in the order of its text
+abbrev pub triple_patterns : Algebra → List TriplePat
+triple_patterns (Bgp list) = list
+triple_patterns (Join left right) = triple_patterns left ++ triple_patterns right
+triple_patterns (LeftJoin left right) = triple_patterns left ++ triple_patterns right
+
+-- how many parts of a pattern are optional
+abbrev pub optional_parts : Algebra → ℕ
+optional_parts (Bgp list) = 0
+optional_parts (Join left right) = optional_parts left + optional_parts right
+optional_parts (LeftJoin left right) = optional_parts left + optional_parts right + 1
+
+-- the place is the variable with this number
+abbrev pub IsVar : Place → ℕ → Type 0
+IsVar (places.Var place) var = place.0 ≡ var
+IsVar (places.Term text) var = ⊥
+
+-- the variable is the predicate of a triple pattern of the pattern
+abbrev pub StandsAtPredicate : Algebra → ℕ → Type 0
+StandsAtPredicate pattern var = Any (λ triple. IsVar triple.predicate var) (triple_patterns pattern)
+
+-- the variable is the subject or the object of a triple pattern of the pattern: a node of the graph
+abbrev pub StandsAtNode : Algebra → ℕ → Type 0
+StandsAtNode pattern var = Any (λ triple. IsVar triple.subject var ⊎ IsVar triple.object var) (triple_patterns pattern)

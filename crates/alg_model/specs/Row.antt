@@ -1,11 +1,15 @@
 -- Rows, which SPARQL calls solution mappings: compatible rows, and their merge. SPARQL 1.1 Query, section 18.3.
 -- A row is a list with one cell for each variable, in order of number: the variable's value, or nothing.
 -- When two values are the same is told by a test, so that a value may be a text or a number.
-use Rattle.std.specs.Prelude.{ℕ, Bool, true, not, if◌then◌else◌, List, ◌++◌, map, filter, replicate, Option, Some, None, slice_set}
+use Rattle.std.specs.Prelude.{◌≡◌, ℕ, Bool, true, not, if◌then◌else◌, List, ◌++◌, map, filter, replicate, Option, Some, None, IsSome, slice_set, slice_index_or}
 use Rattle.std.specs.List.{list_all, list_any, zip, flat_map, filter_map}
 
 abbrev pub Row : Type 0 → Type 0
 Row V = List (Option V)
+
+-- what a row binds a variable to (section 18.1.8)
+abbrev pub binding : {V : Type 0} → Row V → ℕ → Option V
+binding row var = slice_index_or row var None
 
 -- the row of n cells that binds nothing
 abbrev pub unbound : (V : Type 0) → ℕ → Row V
@@ -55,3 +59,12 @@ without_partner same left right = filter (λ r. not (list_any (are_compatible sa
 -- LeftJoin: the Join, and the rows of the left side that have no partner
 abbrev pub left_join : {V : Type 0} → (V → V → Bool) → List (Row V) → List (Row V) → List (Row V)
 left_join same left right = join same left right ++ without_partner same left right
+
+-- a row binds all that another binds, with the same values. It is no word of SPARQL's, but that of pattern trees:
+-- Pérez, Arenas and Gutierrez
+abbrev pub Extends : {V : Type 0} → Row V → Row V → Type 0
+Extends {V} row other = (var : ℕ) (value : V) → binding other var ≡ Some value → binding row var ≡ Some value
+
+-- it binds a variable that the other does not bind
+abbrev pub BindsMore : {V : Type 0} → Row V → Row V → Type 0
+BindsMore row other = (var : ℕ) × IsSome (binding row var) × (binding other var ≡ None)

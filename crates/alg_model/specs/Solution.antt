@@ -1,16 +1,12 @@
 -- The solutions of a basic graph pattern. SPARQL 1.1 Query, section 18.3.1. A place is a
 -- variable, or a term that is matched as it stands, so a row alone says what a triple pattern becomes.
-use Rattle.std.specs.Prelude.{◌≡◌, ◌≢◌, ◌↔◌, ℕ, List, All, AllPairs, Any, Contains, length, slice_index_or, Option, Some, None, IsSome, IsTrue}
+use Rattle.std.specs.Prelude.{◌≡◌, ◌≢◌, ◌↔◌, ℕ, List, All, AllPairs, Any, Contains, length, Some, IsSome, IsTrue}
 use Rattle.alg_model.specs.declared.pattern.Place.{Place}
 use Rattle.alg_model.specs.declared.pattern.Place.TheVariants as places
 use Rattle.alg_model.specs.declared.pattern.TriplePat.{TriplePat}
-use Rattle.alg_model.specs.Row.{Row}
+use Rattle.alg_model.specs.Row.{Row, binding}
 use Rattle.alg_model.specs.Pattern.{Bgp, vars_of}
 use Rattle.alg_model.specs.Eval.{Interpretation}
-
--- what a row binds a variable to (section 18.1.8)
-abbrev pub binding : {V : Type 0} → Row V → ℕ → Option V
-binding row var = slice_index_or row var None
 
 -- the row binds just these variables: they are its domain (section 18.1.8)
 abbrev pub BindsJust : {V : Type 0} → Row V → List ℕ → Type 0
@@ -40,10 +36,22 @@ pub record AreSolutions {V X : Type 0} (interpretation : Interpretation V X) (n 
   pub exactly : (row : Row V) → Contains rows row ↔ IsSolution interpretation n patterns triples row
   pub once : AllPairs (λ r s. r ≢ s) rows
 
--- an interpretation under which values and triples are told apart: the test says when two values are one, no text
--- has two values that stand for it, and two triples with the same three values are one. It is no standard's: it
--- holds of terms by their texts, and is asked of other kinds of value
-pub record IsFaithful {V X : Type 0} (interpretation : Interpretation V X) : Type 0 where
-  pub same : (v w : V) → IsTrue (interpretation.same v w) ↔ (v ≡ w)
-  pub one_value : (v w : V) (text : List ℕ) → IsTrue (interpretation.stands_for v text) → IsTrue (interpretation.stands_for w text) → v ≡ w
-  pub one_triple : (t u : X) → interpretation.subject t ≡ interpretation.subject u → interpretation.predicate t ≡ interpretation.predicate u → interpretation.object t ≡ interpretation.object u → t ≡ u
+-- The rest is no standard's: what the laws ask of an interpretation and of a list of triples.
+
+-- the test says when two values are one
+abbrev pub TellsValues : {V X : Type 0} → Interpretation V X → Type 0
+TellsValues {V} interpretation = (v w : V) → IsTrue (interpretation.same v w) ↔ (v ≡ w)
+
+-- at this place of the triples no text has two values that stand for it
+abbrev pub HasOneValue : {V X : Type 0} → Interpretation V X → (X → V) → List X → Type 0
+HasOneValue {V} {X} interpretation place triples = (t u : X) (text : List ℕ) → Contains triples t → Contains triples u →
+    IsTrue (interpretation.stands_for (place t) text) → IsTrue (interpretation.stands_for (place u) text) → place t ≡ place u
+
+-- the triples are told apart: at each of the three places a text has one value, and two triples with the same three
+-- values are one
+pub record TellsTriples {V X : Type 0} (interpretation : Interpretation V X) (triples : List X) : Type 0 where
+  pub subjects : HasOneValue interpretation interpretation.subject triples
+  pub predicates : HasOneValue interpretation interpretation.predicate triples
+  pub objects : HasOneValue interpretation interpretation.object triples
+  pub one_triple : (t u : X) → Contains triples t → Contains triples u → interpretation.subject t ≡ interpretation.subject u →
+      interpretation.predicate t ≡ interpretation.predicate u → interpretation.object t ≡ interpretation.object u → t ≡ u

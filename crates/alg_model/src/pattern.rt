@@ -1,5 +1,6 @@
-ghost use Rattle.std.specs.Prelude.{◌≡◌, ◌<◌, ◌==◌, [], ◌∷◌, ◌++◌, length, slice_get, IfOk, OnOk, OnErr, Some};
+ghost use Rattle.std.specs.Prelude.{◌≡◌, ◌<◌, ◌==◌, [], ◌∷◌, ◌++◌, All, length, slice_get, IfOk, OnOk, OnErr, Some};
 
+use crate::var_set::{list_vars, place_vars};
 use crate::Var;
 use bm_term::Term;
 use std::alloc::{AllocError, Global};
@@ -22,6 +23,20 @@ pub struct TriplePat {
     pub predicate: Place,
     pub object: Place,
     pub number: u16,
+}
+
+impl TriplePat {
+    ghost use Rattle.alg_model.specs.Pattern.{triple_vars};
+    ghost use Rattle.alg_model.specs.VarSet.{HoldsJust, TripleFits, triple_set};
+
+    /// The set of its variables as a word, for which they have to be below 64.
+    pub fn vars(&self) -> u64
+        requires { TripleFits self.now }
+        ensures value { result ≡ triple_set self.now }
+        ensures just { HoldsJust result (triple_vars self.now) }
+    {
+        place_vars(&self.subject) | place_vars(&self.predicate) | place_vars(&self.object)
+    }
 }
 
 /// A graph pattern (SPARQL 1.1 Query, section 18.2): a basic graph pattern, the Join of two patterns, or
@@ -71,6 +86,9 @@ impl Model for PatList {
 }
 
 impl PatList {
+    ghost use Rattle.alg_model.specs.Pattern.{Bgp, vars_of};
+    ghost use Rattle.alg_model.specs.VarSet.{HoldsJust, TripleFits, list_set};
+
     /// The empty list.
     pub fn new(alloc: Global) -> PatList
         ensures { result ≡ [] }
@@ -107,6 +125,15 @@ impl PatList {
         ensures { result.now ≡ self.now }
     {
         &self.patterns
+    }
+
+    /// The set of the variables of its patterns as a word, for which they have to be below 64.
+    pub fn vars(&self) -> u64
+        requires { All TripleFits self.now }
+        ensures value { result ≡ list_set self.now }
+        ensures just { HoldsJust result (vars_of (Bgp self.now)) }
+    {
+        list_vars(self.as_slice())
     }
 
     /// Puts a pattern at the end, or changes nothing.

@@ -3,7 +3,7 @@
 #![tactic(auto)]
 
 use bm_term::TripleList;
-use nt_read::{FeedFault, Reader};
+use nt_read::{FeedFault, read_lines};
 use std::alloc::AllocError;
 use std::time::Instant;
 use std::{env, fs, io};
@@ -23,7 +23,7 @@ _:b0123456789abcdef <http://xmlns.com/foaf/0.1/age> \"42\"^^<http://www.w3.org/2
 <http://www.wikidata.org/entity/Q42> <http://xmlns.com/foaf/0.1/nick> \"caf\\u00E9\" .
 ";
 
-// The bytes of the file that is named, or those of the lines again and again.
+/// The bytes of the file that is named, or those of the lines again and again.
 fn data(rt: &HostRuntime) -> io::Result<Vec<u8>> {
     match env::args(rt)?.nth(1) {
         Some(name) => fs::read(rt, name.as_str()),
@@ -36,11 +36,8 @@ fn main(rt: HostRuntime) -> io::Result<()> {
     let bytes = data(&rt)?;
     let size = bytes.len();
     let mut triples = TripleList::new(alloc);
-    let mut reader = Reader::new(alloc);
     let start = Instant::now(&rt)?;
-    let fed = reader.feed(&bytes, &mut triples);
-    drop(bytes);
-    let read = fed.and_then(|()| reader.finish(&mut triples));
+    let read = read_lines(alloc, &bytes, &mut triples);
     let taken = start.elapsed(&rt)?;
     match read {
         Ok(()) => println!(rt; "{} triples, {size} bytes", triples.as_slice().len())?,

@@ -1,7 +1,7 @@
-// The world as the system gives it. It tells nothing of content, and counts each failure.
+//! The world as the system gives it. It tells nothing of content, and counts each failure.
 ghost use Rattle.std.specs.Prelude.{None};
 
-use bm_world::{Failed, World};
+use bm_world::{Failed, Faults, World};
 use std::fs;
 use std::fs::File;
 use std::io::{Read, Write};
@@ -12,9 +12,7 @@ pub struct RealWorld {
     rt: HostRuntime,
     reading: Option<File>,
     making: Option<File>,
-    read_faults: u64,
-    write_faults: u64,
-    say_faults: u64,
+    faults: Faults,
 }
 
 impl RealWorld {
@@ -24,9 +22,11 @@ impl RealWorld {
             rt,
             reading: None,
             making: None,
-            read_faults: 0,
-            write_faults: 0,
-            say_faults: 0,
+            faults: Faults {
+                reads: 0,
+                writes: 0,
+                says: 0,
+            },
         }
     }
 }
@@ -34,11 +34,7 @@ impl RealWorld {
 impl World for RealWorld {
     ghost told = { λ w. None };
 
-    ghost read_faults = { λ w. w.read_faults };
-
-    ghost write_faults = { λ w. w.write_faults };
-
-    ghost say_faults = { λ w. w.say_faults };
+    ghost faults = { λ w. w.faults };
 
     fn open(&mut self, name: &str) -> Result<(), Failed> {
         match fs::open(&self.rt, name) {
@@ -48,7 +44,7 @@ impl World for RealWorld {
             }
             Err(_) => {
                 self.reading = None;
-                self.read_faults = self.read_faults.saturating_add(1);
+                self.faults.reads = self.faults.reads.saturating_add(1);
                 Err(Failed)
             }
         }
@@ -60,7 +56,7 @@ impl World for RealWorld {
                 return Ok(count);
             }
         }
-        self.read_faults = self.read_faults.saturating_add(1);
+        self.faults.reads = self.faults.reads.saturating_add(1);
         Err(Failed)
     }
 
@@ -71,7 +67,7 @@ impl World for RealWorld {
                 return Ok(());
             }
         }
-        self.write_faults = self.write_faults.saturating_add(1);
+        self.faults.writes = self.faults.writes.saturating_add(1);
         Err(Failed)
     }
 
@@ -83,7 +79,7 @@ impl World for RealWorld {
                 }
             }
         }
-        self.write_faults = self.write_faults.saturating_add(1);
+        self.faults.writes = self.faults.writes.saturating_add(1);
         Err(Failed)
     }
 
@@ -93,7 +89,7 @@ impl World for RealWorld {
                 return Ok(());
             }
         }
-        self.write_faults = self.write_faults.saturating_add(1);
+        self.faults.writes = self.faults.writes.saturating_add(1);
         Err(Failed)
     }
 
@@ -103,7 +99,7 @@ impl World for RealWorld {
                 return Ok(count);
             }
         }
-        self.write_faults = self.write_faults.saturating_add(1);
+        self.faults.writes = self.faults.writes.saturating_add(1);
         Err(Failed)
     }
 
@@ -113,7 +109,7 @@ impl World for RealWorld {
                 return Ok(count);
             }
         }
-        self.say_faults = self.say_faults.saturating_add(1);
+        self.faults.says = self.faults.says.saturating_add(1);
         Err(Failed)
     }
 }

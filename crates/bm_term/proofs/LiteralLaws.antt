@@ -3,10 +3,12 @@ use Rattle.std.proofs.Common.{◌≡◌, ◌≢◌, ℕ, true, false, if◌then�
 use Rattle.std.proofs.lemmas.Slice.Eq.{bytes_eq-Decides}
 use Rattle.bm_term.specs.Canonical.{xsd_string, plain, typed, literal_of}
 
+-- with the datatype xsd:string it is a plain one
 pub literal_of-xsd_string : (lexical : List ℕ) → literal_of lexical xsd_string ≡ plain lexical
 unfolding literal_of
 literal_of-xsd_string lexical = rw ((bytes_eq-Decides xsd_string xsd_string).1 refl) refl
 
+-- with another datatype it is a typed one
 pub literal_of-other : (lexical datatype : List ℕ) → datatype ≢ xsd_string → literal_of lexical datatype ≡ typed lexical datatype
 unfolding literal_of
 literal_of-other lexical datatype other =

@@ -9,20 +9,24 @@ use Rattle.std.proofs.lemmas.Option.{cond_some, option_and_then_some, same_Some,
 use Rattle.std.proofs.lemmas.Slice.Eq.{bytes_eq-Decides}
 use Rattle.std.proofs.lemmas.List.{nil_from_length}
 use Rattle.bm_term.specs.declared.term_parts.TermKind.TheVariants.{Iri, Blank, Plain, Tagged, Typed}
-use Rattle.bm_term.specs.Classes.{is_scalar, is_irichar, is_lower_letter, is_lower_alphanumeric, is_nt_label_first, is_nt_pn_chars}
-use Rattle.bm_term.specs.Text.{after_char, after_run, before}
-use Rattle.bm_term.specs.Repetition.{after_pieces}
-use Rattle.bm_term.specs.Names.{IsDottedName, IsLanguageTag, after_dotted_name, after_language_tag}
-use Rattle.bm_term.proofs.DottedNames.{after_dotted_name-sound, after_dotted_name-reaches}
-use Rattle.bm_term.proofs.LanguageTags.{no_lower_letter, no_lower_alphanumeric, after_language_tag-sound, after_language_tag-reaches}
-use Rattle.bm_term.proofs.Spellings.{spellings-split, after_spellings-escaped, after_spellings-none, all_scalars-escaped}
-use Rattle.bm_term.proofs.Scalars.{scalars_front}
+use Rattle.rdf_text.specs.Classes.{is_scalar, is_irichar, is_lower_letter, is_lower_alphanumeric, is_nt_label_first, is_nt_pn_chars}
+use Rattle.rdf_text.specs.scanning.Text.{after_char, after_run, before, at_end}
+use Rattle.rdf_text.specs.scanning.Repetition.{after_pieces}
+use Rattle.rdf_text.specs.Names.{IsDottedName, IsLanguageTag}
+use Rattle.rdf_text.specs.scanning.Names.{after_dotted_name, after_language_tag}
+use Rattle.rdf_text.proofs.DottedNames.{after_dotted_name-sound, after_dotted_name-reaches}
+use Rattle.rdf_text.proofs.LanguageTags.{no_lower_letter, no_lower_alphanumeric, after_language_tag-sound, after_language_tag-reaches}
+use Rattle.rdf_text.proofs.Spellings.{spellings-split, after_spellings-escaped, after_spellings-none, all_scalars-escaped}
+use Rattle.rdf_text.proofs.Scalars.{scalars_front}
 use lib.Utf8.{scalar}
-use Rattle.bm_term.proofs.Longest.{whole}
-use Rattle.bm_term.specs.Canonical.{RdfTerm, iri, blank, plain, tagged, typed, IsTerm, kind_of, body_of, tail_of, canonical_chars, escaped, escape_letter, xsd_string}
-use Rattle.bm_term.specs.Reading.{at_end, after_spelling, split_iri, Read, read_iri, read_blank, read_tagged, read_typed, read_tail, read_literal, read_term}
-use Rattle.bm_term.proofs.TextLemmas.{after_run-split, after_run-append, after_run-stop, after_char-some, before-append}
+use Rattle.rdf_text.proofs.Longest.{whole}
+use Rattle.bm_term.specs.Canonical.{RdfTerm, iri, blank, plain, tagged, typed, IsTerm, kind_of, body_of, tail_of, canonical_chars, xsd_string}
+use Rattle.rdf_text.specs.Spelling.{escaped, escape_letter}
+use Rattle.rdf_text.specs.scanning.Spelling.{after_spelling}
+use Rattle.bm_term.specs.scanning.Terms.{split_iri, ScannedParts, scan_iri, scan_blank, scan_tagged, scan_typed, scan_tail, scan_literal, scan_term}
+use Rattle.rdf_text.proofs.TextLemmas.{after_run-split, after_run-append, after_run-stop, after_char-some, before-append}
 
+-- texts that differ are not the same
 bytes_eq-other : (xs ys : List ℕ) → xs ≢ ys → bytes_eq xs ys ≡ false
 bytes_eq-other xs ys other =
     elim (bytes_eq xs ys) as (λ b. bytes_eq xs ys ≡ b → b ≡ false) [
@@ -30,19 +34,22 @@ bytes_eq-other xs ys other =
       | false ↦ λ e. refl
     ] refl
 
+-- texts that are not the same differ
 bytes_eq-differs : (xs ys : List ℕ) → bytes_eq xs ys ≡ false → xs ≢ ys
 bytes_eq-differs xs ys e same = let equal = (bytes_eq-Decides xs ys).1 same in cc
 
 -- the parts of a term
-abbrev pub parts_of : RdfTerm → Read
+abbrev pub parts_of : RdfTerm → ScannedParts
 parts_of term = (kind_of term, body_of term, tail_of term)
 
+-- a value at the end of a text is found only where nothing is left
 at_end-some : {A : Type 0} (rest : List ℕ) (value read : A) → at_end rest value ≡ Some read → (rest ≡ []) × (value ≡ read)
 at_end-some rest value read e =
     let (ended, same) = cond_some (length rest == 0) value read e in
     let none = eqb-true (length rest) 0 ended in
     (nil_from_length rest none, same)
 
+-- the closing bracket is no IRICHAR
 no_irichar : is_irichar 62 ≡ false
 unfolding is_irichar is_scalar
 no_irichar = refl
@@ -62,22 +69,24 @@ split_iri-some text chars rest e =
           (subst (λ xs. list_all is_irichar xs ≡ true) same all, split ∙ ap (λ xs. xs ++ end) same ∙ ap (λ xs. chars ++ xs) (closed ∙ ap (λ xs. 62 ∷ xs) follows))
     ] refl e
 
+-- an IRI up to its bracket is cut there
 split_iri-again : (chars rest : List ℕ) → list_all is_irichar chars ≡ true → split_iri (chars ++ 62 ∷ rest) ≡ Some (chars, rest)
 unfolding split_iri
 split_iri-again chars rest all =
     let end : after_run is_irichar (chars ++ 62 ∷ rest) ≡ 62 ∷ rest = after_run-append is_irichar chars (62 ∷ rest) all ∙ after_run-stop is_irichar 62 rest no_irichar in
     rw (end, before-append chars (62 ∷ rest)) refl
 
--- what a reading answers is a term, whose text stands in front
-pub record Tells (text front : List ℕ) (read : Read) : Type 0 where
+-- what a scan answers is a term, whose text stands in front
+pub record Tells (text front : List ℕ) (read : ScannedParts) : Type 0 where
   pub term : RdfTerm
   pub is : IsTerm term
   pub spelled : front ++ text ≡ canonical_chars term
   pub parts : parts_of term ≡ read
 
-read_iri-tells : (text : List ℕ) (read : Read) → read_iri text ≡ Some read → Tells text (60 ∷ []) read
-unfolding read_iri
-read_iri-tells text read e =
+-- what is read after '<' is the text of an IRI
+scan_iri-tells : (text : List ℕ) (read : ScannedParts) → scan_iri text ≡ Some read → Tells text (60 ∷ []) read
+unfolding scan_iri
+scan_iri-tells text read e =
     option_and_then_some (λ split. at_end split.1 (Iri, split.0, [])) (split_iri text) read e
     (λ split found ends.
     let (all, spelled) = split_iri-some text split.0 split.1 found in
@@ -89,13 +98,15 @@ read_iri-tells text read e =
       parts = same;
     })
 
-read_iri-again : (chars : List ℕ) → list_all is_irichar chars ≡ true → read_iri (chars ++ 62 ∷ []) ≡ Some (Iri, chars, [])
-unfolding read_iri
-read_iri-again chars all = rw (split_iri-again chars [] all) refl
+-- the text of an IRI is read
+scan_iri-again : (chars : List ℕ) → list_all is_irichar chars ≡ true → scan_iri (chars ++ 62 ∷ []) ≡ Some (Iri, chars, [])
+unfolding scan_iri
+scan_iri-again chars all = rw (split_iri-again chars [] all) refl
 
-read_blank-tells : (text : List ℕ) (read : Read) → read_blank text ≡ Some read → Tells text (95 ∷ []) read
-unfolding read_blank
-read_blank-tells text read e =
+-- what is read after '_' is the text of a blank node
+scan_blank-tells : (text : List ℕ) (read : ScannedParts) → scan_blank text ≡ Some read → Tells text (95 ∷ []) read
+unfolding scan_blank
+scan_blank-tells text read e =
     option_and_then_some (λ label. option_and_then (λ rest. at_end rest (Blank, label, [])) (after_dotted_name is_nt_label_first is_nt_pn_chars label)) (after_char 58 text) read e
     (λ label colon follows.
     option_and_then_some (λ rest. at_end rest (Blank, label, [])) (after_dotted_name is_nt_label_first is_nt_pn_chars label) read follows
@@ -110,22 +121,24 @@ read_blank-tells text read e =
       parts = same;
     }))
 
-read_blank-again : (label : List ℕ) → IsDottedName is_nt_label_first is_nt_pn_chars label → read_blank (58 ∷ label) ≡ Some (Blank, label, [])
-unfolding read_blank
-read_blank-again label is =
+-- the text of a blank node is read
+scan_blank-again : (label : List ℕ) → IsDottedName is_nt_label_first is_nt_pn_chars label → scan_blank (58 ∷ label) ≡ Some (Blank, label, [])
+unfolding scan_blank
+scan_blank-again label is =
     rw (whole (IsDottedName is_nt_label_first is_nt_pn_chars) (after_dotted_name is_nt_label_first is_nt_pn_chars) (after_dotted_name-reaches is_nt_label_first is_nt_pn_chars) label is) refl
 
--- what a reading behind a lexical form answers is a literal of that form
-record TellsLiteral (lexical text : List ℕ) (read : Read) : Type 0 where
+-- what a scan after a lexical form answers is a literal of that form
+record TellsLiteral (lexical text : List ℕ) (read : ScannedParts) : Type 0 where
   term : RdfTerm
   is : IsTerm term
   spelled : 34 ∷ (escaped lexical ++ 34 ∷ text) ≡ canonical_chars term
   parts : parts_of term ≡ read
 
 module _ (lexical : List ℕ) (scalars : all_scalars lexical ≡ true) where
-  read_tagged-tells : (text : List ℕ) (read : Read) → read_tagged (escaped lexical) text ≡ Some read → TellsLiteral lexical (64 ∷ text) read
-  unfolding read_tagged
-  read_tagged-tells text read e =
+  -- what is read after '@' is the tag of a literal
+  scan_tagged-tells : (text : List ℕ) (read : ScannedParts) → scan_tagged (escaped lexical) text ≡ Some read → TellsLiteral lexical (64 ∷ text) read
+  unfolding scan_tagged
+  scan_tagged-tells text read e =
       option_and_then_some (λ rest. at_end rest (Tagged, escaped lexical, text)) (after_language_tag is_lower_letter is_lower_alphanumeric text) read e
       (λ rest named ends.
       let (ended, same) = at_end-some rest (Tagged, escaped lexical, text) read ends in
@@ -138,27 +151,31 @@ module _ (lexical : List ℕ) (scalars : all_scalars lexical ≡ true) where
         parts = same;
       })
 
-  read_tagged-again : (tag : List ℕ) → IsLanguageTag is_lower_letter is_lower_alphanumeric tag → read_tagged (escaped lexical) tag ≡ Some (Tagged, escaped lexical, tag)
-  unfolding read_tagged
-  read_tagged-again tag is =
+  -- the tag of a literal is read
+  scan_tagged-again : (tag : List ℕ) → IsLanguageTag is_lower_letter is_lower_alphanumeric tag → scan_tagged (escaped lexical) tag ≡ Some (Tagged, escaped lexical, tag)
+  unfolding scan_tagged
+  scan_tagged-again tag is =
       rw (whole (IsLanguageTag is_lower_letter is_lower_alphanumeric) (after_language_tag is_lower_letter is_lower_alphanumeric)
       (after_language_tag-reaches is_lower_letter is_lower_alphanumeric no_lower_letter no_lower_alphanumeric) tag is) refl
 
-  abbrev typed_end : List ℕ × List ℕ → Option Read
+  -- the end of a literal with a datatype
+  abbrev typed_end : List ℕ × List ℕ → Option ScannedParts
   typed_end split = if bytes_eq split.0 xsd_string then None else at_end split.1 (Typed, escaped lexical, split.0)
 
-  typed_end-some : (datatype rest : List ℕ) (read : Read) → typed_end (datatype, rest) ≡ Some read → (datatype ≢ xsd_string) × (rest ≡ []) × ((Typed, escaped lexical, datatype) ≡ read)
+  -- such an end is found only where the datatype is another than xsd:string
+  typed_end-some : (datatype rest : List ℕ) (read : ScannedParts) → typed_end (datatype, rest) ≡ Some read → (datatype ≢ xsd_string) × (rest ≡ []) × ((Typed, escaped lexical, datatype) ≡ read)
   typed_end-some datatype rest read e =
-      elim (bytes_eq datatype xsd_string) as (λ b. bytes_eq datatype xsd_string ≡ b → ◌≡◌ {A = Option Read} (if b then None else at_end rest (Typed, escaped lexical, datatype)) (Some read) → (datatype ≢ xsd_string) × (rest ≡ []) × ((Typed, escaped lexical, datatype) ≡ read)) [
+      elim (bytes_eq datatype xsd_string) as (λ b. bytes_eq datatype xsd_string ≡ b → ◌≡◌ {A = Option ScannedParts} (if b then None else at_end rest (Typed, escaped lexical, datatype)) (Some read) → (datatype ≢ xsd_string) × (rest ≡ []) × ((Typed, escaped lexical, datatype) ≡ read)) [
         | true ↦ λ f h. absurd (cc)
         | false ↦ λ f h.
             let (ended, same) = at_end-some rest (Typed, escaped lexical, datatype) read h in
             (bytes_eq-differs datatype xsd_string f, ended, same)
       ] refl e
 
-  read_typed-tells : (text : List ℕ) (read : Read) → read_typed (escaped lexical) text ≡ Some read → TellsLiteral lexical (94 ∷ text) read
-  unfolding read_typed
-  read_typed-tells text read e =
+  -- what is read after '^' is the datatype of a literal
+  scan_typed-tells : (text : List ℕ) (read : ScannedParts) → scan_typed (escaped lexical) text ≡ Some read → TellsLiteral lexical (94 ∷ text) read
+  unfolding scan_typed
+  scan_typed-tells text read e =
       option_and_then_some (λ mark. option_and_then (λ datatype. option_and_then typed_end (split_iri datatype)) (after_char 60 mark)) (after_char 94 text) read e
       (λ mark circumflex follows.
       option_and_then_some (λ datatype. option_and_then typed_end (split_iri datatype)) (after_char 60 mark) read follows
@@ -174,33 +191,36 @@ module _ (lexical : List ℕ) (scalars : all_scalars lexical ≡ true) where
         parts = same;
       })))
 
-  read_typed-again : (datatype : List ℕ) → list_all is_irichar datatype ≡ true → datatype ≢ xsd_string → read_typed (escaped lexical) (94 ∷ 60 ∷ (datatype ++ 62 ∷ [])) ≡ Some (Typed, escaped lexical, datatype)
-  unfolding read_typed
-  read_typed-again datatype all other =
+  -- the datatype of a literal is read
+  scan_typed-again : (datatype : List ℕ) → list_all is_irichar datatype ≡ true → datatype ≢ xsd_string → scan_typed (escaped lexical) (94 ∷ 60 ∷ (datatype ++ 62 ∷ [])) ≡ Some (Typed, escaped lexical, datatype)
+  unfolding scan_typed
+  scan_typed-again datatype all other =
       rw (split_iri-again datatype [] all, bytes_eq-other datatype xsd_string other) refl
 
-  read_tail-tells : (text : List ℕ) (read : Read) → read_tail (escaped lexical) text ≡ Some read → TellsLiteral lexical text read
-  unfolding read_tail
-  read_tail-tells [] read e = record { term = plain lexical; is = scalars; spelled = refl; parts = same_Some (Plain, escaped lexical, []) read e }
-  read_tail-tells (c ∷ cs) read e =
-      elim (c == 64) as (λ b. (c == 64) ≡ b → (if b then read_tagged (escaped lexical) cs else (if c == 94 then read_typed (escaped lexical) cs else None)) ≡ Some read → TellsLiteral lexical (c ∷ cs) read) [
-        | true ↦ λ f h. let same = eqb-true c 64 f in rw same (read_tagged-tells cs read h)
+  -- what is read after the closing mark is the tail of a literal
+  scan_tail-tells : (text : List ℕ) (read : ScannedParts) → scan_tail (escaped lexical) text ≡ Some read → TellsLiteral lexical text read
+  unfolding scan_tail
+  scan_tail-tells [] read e = record { term = plain lexical; is = scalars; spelled = refl; parts = same_Some (Plain, escaped lexical, []) read e }
+  scan_tail-tells (c ∷ cs) read e =
+      elim (c == 64) as (λ b. (c == 64) ≡ b → (if b then scan_tagged (escaped lexical) cs else (if c == 94 then scan_typed (escaped lexical) cs else None)) ≡ Some read → TellsLiteral lexical (c ∷ cs) read) [
+        | true ↦ λ f h. let same = eqb-true c 64 f in rw same (scan_tagged-tells cs read h)
         | false ↦ λ f h.
-            elim (c == 94) as (λ b. (c == 94) ≡ b → (if b then read_typed (escaped lexical) cs else None) ≡ Some read → TellsLiteral lexical (c ∷ cs) read) [
-              | true ↦ λ g k. let same = eqb-true c 94 g in rw same (read_typed-tells cs read k)
+            elim (c == 94) as (λ b. (c == 94) ≡ b → (if b then scan_typed (escaped lexical) cs else None) ≡ Some read → TellsLiteral lexical (c ∷ cs) read) [
+              | true ↦ λ g k. let same = eqb-true c 94 g in rw same (scan_typed-tells cs read k)
               | false ↦ λ g k. absurd (cc)
             ] refl h
       ] refl e
 
-  read_literal-tells : (text : List ℕ) (read : Read) → text ≡ escaped lexical ++ after_pieces after_spelling text → read_literal text ≡ Some read → Tells text (34 ∷ []) read
-  unfolding read_literal
-  read_literal-tells text read split e =
+  -- what is read after the opening mark is the text of a literal
+  scan_literal-tells : (text : List ℕ) (read : ScannedParts) → text ≡ escaped lexical ++ after_pieces after_spelling text → scan_literal text ≡ Some read → Tells text (34 ∷ []) read
+  unfolding scan_literal
+  scan_literal-tells text read split e =
       let end = after_pieces after_spelling text in
       let front : before text end ≡ escaped lexical = ap (λ xs. before xs end) split ∙ before-append (escaped lexical) end in
-      option_and_then_some (read_tail (before text end)) (after_char 34 end) read e
+      option_and_then_some (scan_tail (before text end)) (after_char 34 end) read e
       (λ tail closed follows.
-      let reads : read_tail (escaped lexical) tail ≡ Some read = ap (λ xs. read_tail xs tail) (sym front) ∙ follows in
-      let tells = read_tail-tells tail read reads in
+      let reads : scan_tail (escaped lexical) tail ≡ Some read = ap (λ xs. scan_tail xs tail) (sym front) ∙ follows in
+      let tells = scan_tail-tells tail read reads in
       record {
         term = tells.term;
         is = tells.is;
@@ -208,7 +228,8 @@ module _ (lexical : List ℕ) (scalars : all_scalars lexical ≡ true) where
         parts = tells.parts;
       })
 
-front_first : (c : ℕ) (cs : List ℕ) (read : Read) → Tells cs (c ∷ []) read → Tells (c ∷ cs) [] read
+-- the first character belongs to the text
+front_first : (c : ℕ) (cs : List ℕ) (read : ScannedParts) → Tells cs (c ∷ []) read → Tells (c ∷ cs) [] read
 front_first c cs read tells = record { term = tells.term; is = tells.is; spelled = tells.spelled; parts = tells.parts }
 
 -- a quotation mark ends a lexical form
@@ -216,43 +237,44 @@ after_spelling-quotation_mark : (rest : List ℕ) → after_spelling (34 ∷ res
 unfolding after_spelling escape_letter
 after_spelling-quotation_mark rest = refl
 
-read_literal-again : (lexical tail : List ℕ) (read : Read) → read_tail (escaped lexical) tail ≡ Some read → read_literal (escaped lexical ++ 34 ∷ tail) ≡ Some read
-unfolding read_literal
-read_literal-again lexical tail read e =
+-- the text of a literal is read, where its tail is
+scan_literal-again : (lexical tail : List ℕ) (read : ScannedParts) → scan_tail (escaped lexical) tail ≡ Some read → scan_literal (escaped lexical ++ 34 ∷ tail) ≡ Some read
+unfolding scan_literal
+scan_literal-again lexical tail read e =
     let end : after_pieces after_spelling (escaped lexical ++ 34 ∷ tail) ≡ 34 ∷ tail =
     after_spellings-escaped lexical (34 ∷ tail) ∙ after_spellings-none (34 ∷ tail) (after_spelling-quotation_mark tail) in
     rw (end, before-append (escaped lexical) (34 ∷ tail)) e
 
 -- what is read of a text of characters is a term whose text it is
-pub read_term-tells : (text : List ℕ) (read : Read) → all_scalars text ≡ true → read_term text ≡ Some read → Tells text [] read
-unfolding read_term
-read_term-tells [] read scalars e = absurd (cc)
-read_term-tells (c ∷ cs) read scalars e =
-    elim (c == 60) as (λ b. (c == 60) ≡ b → (if b then read_iri cs else (if c == 95 then read_blank cs else (if c == 34 then read_literal cs else None))) ≡ Some read → Tells (c ∷ cs) [] read) [
-      | true ↦ λ f h. let same = eqb-true c 60 f in rw same (front_first 60 cs read (read_iri-tells cs read h))
+pub scan_term-tells : (text : List ℕ) (read : ScannedParts) → all_scalars text ≡ true → scan_term text ≡ Some read → Tells text [] read
+unfolding scan_term
+scan_term-tells [] read scalars e = absurd (cc)
+scan_term-tells (c ∷ cs) read scalars e =
+    elim (c == 60) as (λ b. (c == 60) ≡ b → (if b then scan_iri cs else (if c == 95 then scan_blank cs else (if c == 34 then scan_literal cs else None))) ≡ Some read → Tells (c ∷ cs) [] read) [
+      | true ↦ λ f h. let same = eqb-true c 60 f in rw same (front_first 60 cs read (scan_iri-tells cs read h))
       | false ↦ λ f h.
-          elim (c == 95) as (λ b. (c == 95) ≡ b → (if b then read_blank cs else (if c == 34 then read_literal cs else None)) ≡ Some read → Tells (c ∷ cs) [] read) [
-            | true ↦ λ g k. let same = eqb-true c 95 g in rw same (front_first 95 cs read (read_blank-tells cs read k))
+          elim (c == 95) as (λ b. (c == 95) ≡ b → (if b then scan_blank cs else (if c == 34 then scan_literal cs else None)) ≡ Some read → Tells (c ∷ cs) [] read) [
+            | true ↦ λ g k. let same = eqb-true c 95 g in rw same (front_first 95 cs read (scan_blank-tells cs read k))
             | false ↦ λ g k.
-                elim (c == 34) as (λ b. (c == 34) ≡ b → (if b then read_literal cs else None) ≡ Some read → Tells (c ∷ cs) [] read) [
+                elim (c == 34) as (λ b. (c == 34) ≡ b → (if b then scan_literal cs else None) ≡ Some read → Tells (c ∷ cs) [] read) [
                   | true ↦ λ m n.
                       let same = eqb-true c 34 m in
                       let (lexical, split) = spellings-split cs in
                       let (first, others) = and_parts (scalar c) (all_scalars cs) scalars in
                       let spelled = scalars_front (escaped lexical) (after_pieces after_spelling cs) (subst (λ xs. all_scalars xs ≡ true) split others) in
                       let is : all_scalars lexical ≡ true = sym (all_scalars-escaped lexical) ∙ spelled in
-                      rw same (front_first 34 cs read (read_literal-tells lexical is cs read split n))
+                      rw same (front_first 34 cs read (scan_literal-tells lexical is cs read split n))
                   | false ↦ λ m n. absurd (cc)
                 ] refl k
           ] refl h
     ] refl e
 
 -- each term's text is read, as its parts
-pub read_term-again : (term : RdfTerm) → IsTerm term → read_term (canonical_chars term) ≡ Some (parts_of term)
-unfolding read_term read_tail
-read_term-again (iri chars) is = read_iri-again chars is
-read_term-again (blank label) is = read_blank-again label is
-read_term-again (plain lexical) is = read_literal-again lexical [] (Plain, escaped lexical, []) refl
-read_term-again (tagged lexical tag) is = read_literal-again lexical (64 ∷ tag) (Tagged, escaped lexical, tag) (read_tagged-again lexical is.0 tag is.1)
-read_term-again (typed lexical datatype) is =
-    read_literal-again lexical (94 ∷ 94 ∷ 60 ∷ (datatype ++ 62 ∷ [])) (Typed, escaped lexical, datatype) (read_typed-again lexical is.0 datatype is.1 is.2)
+pub scan_term-again : (term : RdfTerm) → IsTerm term → scan_term (canonical_chars term) ≡ Some (parts_of term)
+unfolding scan_term scan_tail
+scan_term-again (iri chars) is = scan_iri-again chars is
+scan_term-again (blank label) is = scan_blank-again label is
+scan_term-again (plain lexical) is = scan_literal-again lexical [] (Plain, escaped lexical, []) refl
+scan_term-again (tagged lexical tag) is = scan_literal-again lexical (64 ∷ tag) (Tagged, escaped lexical, tag) (scan_tagged-again lexical is.0 tag is.1)
+scan_term-again (typed lexical datatype) is =
+    scan_literal-again lexical (94 ∷ 94 ∷ 60 ∷ (datatype ++ 62 ∷ [])) (Typed, escaped lexical, datatype) (scan_typed-again lexical is.0 datatype is.1 is.2)

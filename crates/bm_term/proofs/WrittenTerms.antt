@@ -3,8 +3,9 @@ use Rattle.std.proofs.Common.{◌≡◌, ℕ, Result, Ok, Err, if◌then◌else�
 use Rattle.std.specs.Prelude.{encode_utf8, is_ok, OnOk}
 use Rattle.std.specs.Str.{encode_utf8_all}
 use Rattle.std.proofs.lemmas.Str.{encodes-append}
-use Rattle.bm_term.specs.Canonical.{iri, plain, tagged, typed, escaped, canonical_text}
-use Rattle.bm_term.specs.Marks.{quotation_mark, at_sign, circumflex, less_than, greater_than}
+use Rattle.bm_term.specs.Canonical.{iri, plain, tagged, typed, canonical_text}
+use Rattle.rdf_text.specs.Spelling.{escaped}
+use Rattle.rdf_text.specs.Marks.{quotation_mark, at_sign, circumflex, less_than, greater_than}
 
 -- text between marks, written part by part
 pub marked_bytes : (before first second third body : List ℕ) (opening closing : ℕ) → first ≡ before ++ encode_utf8 opening → second ≡ first ++ encode_utf8_all body → third ≡ second ++ encode_utf8 closing → third ≡ before ++ encode_utf8_all (opening ∷ (body ++ closing ∷ []))
@@ -20,21 +21,23 @@ pub pushed_marked : {A E : Type 0} (result : Result A E) (before first second th
 pushed_marked (Ok u) before first second third body opening closing opens inner closes = marked_bytes before first second third body opening closing opens inner closes
 pushed_marked (Err e) before first second third body opening closing opens inner closes = tt
 
--- what stands behind the closing mark of a lexical form
-behind_mark : (body tail : List ℕ) → encode_utf8_all (quotation_mark ∷ (body ++ quotation_mark ∷ [])) ++ encode_utf8_all tail ≡ encode_utf8_all (quotation_mark ∷ (body ++ quotation_mark ∷ tail))
-behind_mark body tail =
+-- what stands after the closing mark of a lexical form
+after_mark : (body tail : List ℕ) → encode_utf8_all (quotation_mark ∷ (body ++ quotation_mark ∷ [])) ++ encode_utf8_all tail ≡ encode_utf8_all (quotation_mark ∷ (body ++ quotation_mark ∷ tail))
+after_mark body tail =
     sym (encodes-append (quotation_mark ∷ (body ++ quotation_mark ∷ [])) tail)
     ∙ ap (λ xs. encode_utf8_all (quotation_mark ∷ xs)) (append_assoc body (quotation_mark ∷ []) tail)
 
+-- a literal with a tag, written part by part
 pub tagged_bytes : (lexical tag first second third : List ℕ) → first ≡ canonical_text (plain lexical) → second ≡ first ++ encode_utf8 at_sign → third ≡ second ++ encode_utf8_all tag → third ≡ canonical_text (tagged lexical tag)
 tagged_bytes lexical tag first second third form mark language =
     language ∙ ap (λ xs. xs ++ encode_utf8_all tag) (mark ∙ ap (λ xs. xs ++ encode_utf8 at_sign) form)
     ∙ append_assoc (canonical_text (plain lexical)) (encode_utf8 at_sign) (encode_utf8_all tag)
-    ∙ behind_mark (escaped lexical) (at_sign ∷ tag)
+    ∙ after_mark (escaped lexical) (at_sign ∷ tag)
 
+-- a literal with a datatype, written part by part
 pub typed_bytes : (lexical datatype first second : List ℕ) → first ≡ canonical_text (plain lexical) → second ≡ first ++ (circumflex ∷ circumflex ∷ []) ++ canonical_text (iri datatype) → second ≡ canonical_text (typed lexical datatype)
 unfolding lib.Utf8.encode
 typed_bytes lexical datatype first second form datatype_is =
     datatype_is ∙ append_assoc first (circumflex ∷ circumflex ∷ []) (canonical_text (iri datatype))
     ∙ ap (λ xs. xs ++ encode_utf8_all (circumflex ∷ circumflex ∷ less_than ∷ (datatype ++ greater_than ∷ []))) form
-    ∙ behind_mark (escaped lexical) (circumflex ∷ circumflex ∷ less_than ∷ (datatype ++ greater_than ∷ []))
+    ∙ after_mark (escaped lexical) (circumflex ∷ circumflex ∷ less_than ∷ (datatype ++ greater_than ∷ []))

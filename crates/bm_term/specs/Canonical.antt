@@ -1,12 +1,13 @@
 -- The terms of RDF (RDF 1.1 Concepts, section 3), and the one text that each has here.
-use Rattle.std.specs.Prelude.{◌≡◌, ◌≢◌, ℕ, ◌==◌, if◌then◌else◌, IsTrue, Option, Some, None, bytes_eq, codes, List, [], ◌∷◌, ◌++◌}
-use Rattle.std.specs.List.{list_all, flat_map}
+use Rattle.std.specs.Prelude.{◌≡◌, ◌≢◌, ℕ, if◌then◌else◌, IsTrue, bytes_eq, codes, List, [], ◌∷◌, ◌++◌}
+use Rattle.std.specs.List.{list_all}
 use Rattle.std.specs.Str.{all_scalars, encode_utf8_all}
 use Rattle.bm_term.specs.declared.term_parts.TermKind.{TermKind}
 use Rattle.bm_term.specs.declared.term_parts.TermKind.TheVariants.{Iri, Blank, Plain, Tagged, Typed}
-use Rattle.bm_term.specs.Marks.{tab, line_feed, carriage_return, quotation_mark, colon, less_than, greater_than, at_sign, backslash, circumflex, low_line, letter_n, letter_r, letter_t}
-use Rattle.bm_term.specs.Classes.{is_lower_letter, is_lower_alphanumeric, is_nt_label_first, is_nt_pn_chars, is_irichar}
-use Rattle.bm_term.specs.Names.{IsDottedName, IsLanguageTag}
+use Rattle.rdf_text.specs.Marks.{quotation_mark, colon, less_than, greater_than, at_sign, circumflex, low_line}
+use Rattle.rdf_text.specs.Classes.{is_lower_letter, is_lower_alphanumeric, is_nt_label_first, is_nt_pn_chars, is_irichar}
+use Rattle.rdf_text.specs.Names.{IsDottedName, IsLanguageTag}
+use Rattle.rdf_text.specs.Spelling.{escaped}
 
 -- A term, by its characters: the IRI; the label of a blank node; the lexical form of a literal of xsd:string, of one
 -- with a language tag, and of one with the IRI of another datatype.
@@ -41,26 +42,6 @@ IsTerm (plain lexical) = IsTrue (all_scalars lexical)
 IsTerm (tagged lexical tag) = IsTrue (all_scalars lexical) × IsLowerTag tag
 IsTerm (typed lexical datatype) =
     IsTrue (all_scalars lexical) × IsTrue (list_all is_irichar datatype) × (datatype ≢ xsd_string)
-
--- the letter that stands for a character which may not stand raw in a literal, after a backslash
-unfoldable pub escape_letter : ℕ → Option ℕ
-escape_letter c =
-    if c == quotation_mark then Some quotation_mark
-    else (if c == backslash then Some backslash
-    else (if c == line_feed then Some letter_n
-    else (if c == carriage_return then Some letter_r
-    else (if c == tab then Some letter_t else None))))
-
-abbrev pub spelled_by : ℕ → Option ℕ → List ℕ
-spelled_by c None = c ∷ []
-spelled_by c (Some letter) = backslash ∷ letter ∷ []
-
--- a character's one spelling in a literal: raw, or escaped
-abbrev pub spelling : ℕ → List ℕ
-spelling c = spelled_by c (escape_letter c)
-
-abbrev pub escaped : List ℕ → List ℕ
-escaped lexical = flat_map spelling lexical
 
 -- the parts of a term's text
 abbrev pub kind_of : RdfTerm → TermKind

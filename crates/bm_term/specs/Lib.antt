@@ -1,13 +1,8 @@
 pub mod Canonical
-pub mod Classes
-pub mod Escapes
 pub mod Graph
 pub mod Kept
-pub mod Marks
-pub mod Names
 pub mod Parts
-pub mod Reading
-pub mod Repetition
+pub mod SetOf
 pub mod TermRef
-pub mod Text
 pub mod Triple
+pub mod scanning

@@ -5,7 +5,15 @@ use Rattle.bm_term.specs.declared.term_parts.TermKind.{TermKind}
 use Rattle.bm_term.specs.declared.term_parts.TermKind.TheVariants.{Iri, Blank, Plain, Tagged, Typed}
 use Rattle.bm_term.specs.declared.term_parts.Parts.{Parts}
 use Rattle.bm_term.specs.Canonical.{RdfTerm, iri, blank, plain, tagged, typed, IsTerm, kind_of, body_of, tail_of, canonical_text, built, IsTextOf}
-use Rattle.bm_term.specs.Escapes.{IsBodyOf, unescaped}
+use Rattle.rdf_text.specs.Spelling.{IsBody, unescaped}
+
+-- the body of a literal, of each kind, spells a lexical form
+abbrev pub IsBodyOf : TermKind → List ℕ → Type 0
+IsBodyOf Plain body = IsBody body
+IsBodyOf Tagged body = IsBody body
+IsBodyOf Typed body = IsBody body
+IsBodyOf Iri body = Unit {0}
+IsBodyOf Blank body = Unit {0}
 
 -- they show the term: its kind, and the bytes of its body and of its tail
 pub record Shows (parts : Parts) (term : RdfTerm) : Type 0 where

@@ -1,4 +1,4 @@
-// Laws of canonical texts, for all terms, and of takers.
+//! Laws of canonical texts, for all terms, and of takers.
 ghost use Rattle.std.specs.Prelude.{◌≡◌, List, ◌++◌};
 ghost use Rattle.bm_term.specs.Canonical.{RdfTerm, IsTerm, kind_of, body_of, tail_of, canonical_text};
 ghost use Rattle.bm_term.specs.Parts.{term_of};

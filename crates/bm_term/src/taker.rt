@@ -1,4 +1,4 @@
-// What takes triples one by one.
+//! What takes triples one by one.
 ghost use Rattle.std.specs.Prelude.{◌≡◌, OnOk, OnErr};
 ghost use Rattle.bm_term.specs.Kept.{Kept, after, unlimited};
 ghost use Rattle.bm_term.specs.Triple.{IsRdfTriple};

@@ -1,6 +1,6 @@
 ghost use Rattle.bm_term.specs.Canonical.{IsCanonical};
 
-use crate::reading::parts;
+use crate::scanning::parts;
 use crate::term_parts::Parts;
 
 /// A borrowed term: a canonical text. It is seen as that text.

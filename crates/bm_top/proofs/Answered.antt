@@ -11,9 +11,9 @@ use Rattle.alg_model.specs.Row.{Row}
 use Rattle.alg_model.specs.Answers.{row_cmp, project, answers_of}
 use Rattle.alg_model.specs.Eval.{as_terms, eval}
 use Rattle.alg_model.specs.Pattern.{algebra_of}
-use Rattle.alg_model.proofs.InOrder.{in_order-is, in_order-each_once}
+use Rattle.alg_model.proofs.InOrder.{in_order-is, set_of-dedup}
 use Rattle.alg_model.proofs.RowOrder.{row_cmp-total, row_cmp-exact}
-use Rattle.bm_top.specs.RowOrder.{rows_tie}
+use Rattle.bm_top.specs.steps.RowOrder.{rows_tie}
 
 -- two rows are the same
 abbrev same_rows : Row (List ℕ) → Row (List ℕ) → Bool
@@ -43,5 +43,5 @@ pub answers_of-distinct : (query : Query) (graph : List Triple) (rows projected 
     → IsPermutation projected sorted → IsSorted row_cmp sorted → IsFiltered (DiffersFromLast same_rows) [] sorted left → left ≡ answers_of query graph
 answers_of-distinct query graph rows projected sorted left distinct evaluated is moved rises filtered =
     let all = map (project query.columns) (eval as_terms (length query.names) (algebra_of query.pattern) graph) in
-    let each = in_order-each_once row_cmp row_cmp-total row_cmp-exact same_rows rows_tie all sorted (IsPermutation-projected query graph rows projected sorted evaluated is moved) rises in
+    let each = set_of-dedup row_cmp row_cmp-total row_cmp-exact same_rows rows_tie all sorted (IsPermutation-projected query graph rows projected sorted evaluated is moved) rises in
     rw distinct (dedup_is same_rows sorted left filtered ∙ each)

@@ -2,18 +2,20 @@
 use Rattle.std.proofs.Common.{◌≡◌, ◌≢◌, ℕ, List, None, Ok, Err, inl, inr, ap}
 use Rattle.bm_term.specs.Graph.{graph_of}
 use Rattle.alg_model.specs.declared.query.Query.{Query}
-use Rattle.alg_model.specs.Answers.{abstract_of, answers_of}
+use Rattle.alg_model.specs.Answers.{answers_of}
+use Rattle.alg_model.specs.Query.{abstract_of}
 use Rattle.nt_read.specs.declared.lines.FeedFault.{FeedFault}
 use Rattle.nt_read.specs.declared.lines.FeedFault.TheVariants as feed_faults
-use Rattle.sparql_parse.specs.Reading.{query_reading, IsMemoryOr}
+use Rattle.sparql_parse.specs.computed.Reading.{query_reading, IsMemoryOr}
 use Rattle.sparql_parse.specs.declared.fault.QueryFault.{QueryFault}
 use Rattle.sparql_parse.specs.declared.fault.QueryFault.TheVariants as query_faults
-use Rattle.bm_top.specs.Decide.{IsDecided, from_data, from_query}
-use Rattle.nt_read.specs.Lines.{first_bad, lines_of, triples_of}
-use Rattle.bm_top.specs.QueryLine.{query_line}
-use Rattle.bm_top.specs.Reading.{IsDataOf}
+use Rattle.bm_top.specs.steps.Decide.{IsDecided, from_data, from_query}
+use Rattle.nt_read.specs.scanning.Lines.{first_bad, lines_of, triples_of}
+use Rattle.bm_top.specs.Lines.{fault_line}
+use Rattle.bm_top.specs.steps.Data.{IsDataOf}
 use Rattle.bm_top.specs.Tsv.{tsv_text}
-use Rattle.bm_top.specs.Verdict.{answered, answering, deciding, decided, refused}
+use Rattle.bm_top.specs.Verdict.{answered, refused}
+use Rattle.bm_top.specs.steps.VerdictOf.{answering, deciding, decided}
 
 -- the data was refused
 pub decided-data : (bytes text : List ℕ) (fault : FeedFault) → IsDataOf bytes (Err fault) → IsDecided (decided bytes text) (Err (from_data fault))
@@ -22,7 +24,7 @@ decided-data bytes text (feed_faults.NotNTriples line) h = ap (λ bad. deciding 
 decided-data bytes text feed_faults.Memory h = tt
 
 -- what was read as a query has a fault
-decided-fault : (bytes text : List ℕ) (fault : QueryFault) → first_bad bytes ≡ None → query_reading text ≡ Err fault → decided bytes text ≡ refused 3 (query_line fault)
+decided-fault : (bytes text : List ℕ) (fault : QueryFault) → first_bad bytes ≡ None → query_reading text ≡ Err fault → decided bytes text ≡ refused 3 (fault_line fault)
 unfolding decided
 decided-fault bytes text fault good h = rw good (ap (answering (lines_of bytes)) h)
 

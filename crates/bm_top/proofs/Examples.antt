@@ -1,14 +1,15 @@
 -- Worked examples, by computation: result texts, commands, lines and verdicts.
 use Rattle.std.proofs.Common.{◌≡◌, [], ◌∷◌, ◌++◌, None, Some, Err, false, codes, decimal, refl}
-use Rattle.alg_model.specs.Answers.{AbstractQuery}
+use Rattle.alg_model.specs.Query.{AbstractQuery}
 use Rattle.alg_model.specs.Pattern.{Bgp}
 use Rattle.query_grammar.specs.declared.words.Word.TheVariants as words
 use Rattle.sparql_parse.specs.declared.fault.QueryFault.TheVariants as faults
 use Rattle.bm_top.specs.Command.{ask, request_of}
 use Rattle.bm_world.specs.Meanings.{Files}
-use Rattle.bm_top.specs.QueryLine.{query_line}
+use Rattle.bm_top.specs.Lines.{fault_line, usage_line, write_fault_line, out_of_memory_line}
 use Rattle.bm_top.specs.Tsv.{tsv_text}
-use Rattle.bm_top.specs.Verdict.{answered, refused, within, reading_file, deciding, verdict_of}
+use Rattle.bm_top.specs.Verdict.{answered, refused}
+use Rattle.bm_top.specs.steps.VerdictOf.{within, reading_file, deciding, verdict_of}
 
 -- a query with two columns
 abbrev two_columns : AbstractQuery
@@ -55,26 +56,33 @@ bad_query : deciding None [] (Err (faults.Syntax 9)) ≡ refused 3 (codes "query
 bad_query = refl
 
 -- each line of a query that is refused
-unsupported_keyword : query_line (faults.Unsupported 11 words.Filter) ≡ codes "query refused: unsupported FILTER at byte " ++ (decimal 11 ++ codes "\n")
+unsupported_keyword : fault_line (faults.Unsupported 11 words.Filter) ≡ codes "query refused: unsupported FILTER at byte " ++ (decimal 11 ++ codes "\n")
 unsupported_keyword = refl
 
-unsupported_sign : query_line (faults.Unsupported 7 words.SquareOpen) ≡ codes "query refused: unsupported [ at byte " ++ (decimal 7 ++ codes "\n")
+unsupported_sign : fault_line (faults.Unsupported 7 words.SquareOpen) ≡ codes "query refused: unsupported [ at byte " ++ (decimal 7 ++ codes "\n")
 unsupported_sign = refl
 
-unknown_prefix : query_line (faults.UnknownPrefix 14) ≡ codes "query refused: unknown prefix at byte " ++ (decimal 14 ++ codes "\n")
+unknown_prefix : fault_line (faults.UnknownPrefix 14) ≡ codes "query refused: unknown prefix at byte " ++ (decimal 14 ++ codes "\n")
 unknown_prefix = refl
 
-too_many_variables : query_line (faults.TooManyVariables 200) ≡ codes "query refused: too many variables at byte " ++ (decimal 200 ++ codes "\n")
+too_many_variables : fault_line (faults.TooManyVariables 200) ≡ codes "query refused: too many variables at byte " ++ (decimal 200 ++ codes "\n")
 too_many_variables = refl
 
-too_many_patterns : query_line (faults.TooManyPatterns 6683) ≡ codes "query refused: too many patterns at byte " ++ (decimal 6683 ++ codes "\n")
+too_many_patterns : fault_line (faults.TooManyPatterns 6683) ≡ codes "query refused: too many patterns at byte " ++ (decimal 6683 ++ codes "\n")
 too_many_patterns = refl
 
-too_many_optionals : query_line (faults.TooManyOptionals 703) ≡ codes "query refused: too many optionals at byte " ++ (decimal 703 ++ codes "\n")
+too_many_optionals : fault_line (faults.TooManyOptionals 703) ≡ codes "query refused: too many optionals at byte " ++ (decimal 703 ++ codes "\n")
 too_many_optionals = refl
 
-too_many_groups : query_line (faults.TooManyGroups 512) ≡ codes "query refused: too many groups at byte " ++ (decimal 512 ++ codes "\n")
+too_many_groups : fault_line (faults.TooManyGroups 512) ≡ codes "query refused: too many groups at byte " ++ (decimal 512 ++ codes "\n")
 too_many_groups = refl
 
-too_deep : query_line (faults.TooDeep 41) ≡ codes "query refused: too deep at byte " ++ (decimal 41 ++ codes "\n")
+too_deep : fault_line (faults.TooDeep 41) ≡ codes "query refused: too deep at byte " ++ (decimal 41 ++ codes "\n")
 too_deep = refl
+
+-- the lines that name nothing
+write_fault : write_fault_line ≡ codes "write fault\n"
+write_fault = refl
+
+out_of_memory : out_of_memory_line ≡ codes "out of memory\n"
+out_of_memory = refl

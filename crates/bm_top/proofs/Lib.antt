@@ -5,6 +5,7 @@ pub mod Distinct
 pub mod Examples
 pub mod LinePieces
 pub mod Lists
+pub mod Promised
 pub mod Promises
 pub mod StandardLaws
 pub mod StepsDone

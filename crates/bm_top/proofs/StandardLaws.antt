@@ -1,25 +1,34 @@
--- The verdict is what the standards' relations say.
-use Rattle.std.proofs.Common.{◌≡◌, ◌≢◌, inl, inr, ℕ, ◌≤◌, if◌then◌else◌, List, ◌++◌, length, Option, Some, None, Result, Ok, Err, refl, sym, ap, subst, ◌∙◌, arith}
+-- Words and files have exactly one verdict: the one that the function gives.
+use Rattle.std.proofs.Common.{◌≡◌, ◌≢◌, ◌↔◌, inl, inr, ℕ, ◌<◌, ◌≤◌, ◌⊎◌, true, nat_lt, if◌then◌else◌, List, ◌++◌, length, Option, Some, None, Result, Ok, Err, refl, sym, ap, subst, ◌∙◌, arith}
 use Rattle.std.specs.FinMap.{get}
-use Rattle.std.proofs.lemmas.Bool.{le-ltb}
+use Rattle.std.proofs.lemmas.Bool.{le-ltb, cases_lt}
+use Rattle.std.proofs.lemmas.Grind.{common_steps}
 use Rattle.bm_term.specs.declared.triple.Triple.{Triple}
-use Rattle.bm_term.specs.Graph.{graph_of}
-use Rattle.nt_read.specs.Lines.{first_bad, lines_of, triples_of, SpellTriples}
+use Rattle.bm_term.specs.Graph.{triple_cmp, IsGraph, graph_of}
+use Rattle.bm_term.proofs.Sets.{IsSetOf-set_of}
+use Rattle.bm_term.proofs.TripleOrder.{triple_cmp-total, triple_cmp-exact}
+use Rattle.nt_read.specs.scanning.Lines.{first_bad, lines_of, triples_of}
+use Rattle.nt_read.specs.Lines.{SpellTriples}
 use Rattle.nt_read.proofs.Cuts.{AreLines-lines_of}
 use Rattle.nt_read.proofs.FirstBad.{first_bad-found, first_bad-none}
 use Rattle.nt_read.proofs.SpelledTriples.{spelled-triples_of}
-use Rattle.alg_model.specs.Answers.{AbstractQuery, answers_to}
+use Rattle.alg_model.specs.Answers.{answers_to}
+use Rattle.alg_model.specs.Query.{AbstractQuery}
 use Rattle.sparql_parse.specs.declared.fault.QueryFault.{QueryFault}
-use Rattle.sparql_parse.specs.Reading.{query_reading}
+use Rattle.sparql_parse.specs.computed.Reading.{query_reading}
 use Rattle.sparql_parse.proofs.DenotingLaws.{reading-denotes, denotes-reading, reading-is_fault, fault-reading}
+use Rattle.bm_world.specs.declared.world.Faults.{Faults}
 use Rattle.bm_world.specs.Meanings.{Files, Meanings}
 use Rattle.bm_world.specs.World.{Step}
-use Rattle.bm_top.specs.declared.steps.TheConstants.{MAX_DATA_BYTES, MAX_QUERY_BYTES}
-use Rattle.bm_top.specs.QueryLine.{query_line}
+use Rattle.bm_top.specs.declared.refusal.QueryRefusal.{QueryRefusal}
+use Rattle.bm_top.specs.declared.refusal.QueryRefusal.TheVariants.{Fault}
+use Rattle.bm_top.specs.Command.{Request, ask, request_of}
+use Rattle.bm_top.specs.Lines.{max_data_bytes, max_query_bytes, usage_line, read_fault_line, limit_line, bad_line_line, query_line, fault_line}
 use Rattle.bm_top.specs.Tsv.{tsv_text}
-use Rattle.bm_top.specs.Run.{IsComplete, Outputs}
-use Rattle.bm_top.specs.Standard.{AreNTriples, IsAnswer, IsBadData, IsRefusal, Asks, Prints}
-use Rattle.bm_top.specs.Verdict.{Verdict, answered, refused, bad_line_line, limit_line, within, reading_file, reading, deciding, decided, query_verdict, request_verdict, verdict_at, verdict_of}
+use Rattle.bm_top.specs.Run.{IsComplete, Outputs, Prints}
+use Rattle.bm_top.specs.Standard.{AreNTriples, IsAnswer, IsBadData, IsRefusal, IsRefusedFor, IsDecidedBy, missing, too_long, read, IsAnswerOrRefusal, bad_data, bad_query, answer, IsAskVerdict, IsVerdict, usage, asks, Asks}
+use Rattle.bm_top.specs.Verdict.{Verdict, answered, refused}
+use Rattle.bm_top.specs.steps.VerdictOf.{within, reading_file, reading, deciding, decided, query_verdict, request_verdict, verdict_at, verdict_of}
 
 -- data without a bad line, and its triples
 record IsRead (bytes : List ℕ) (triples : List Triple) : Type 0 where
@@ -41,115 +50,164 @@ read-triples bytes none = record {
 }
 
 -- the verdict by what is read
-decided-by : (bytes text : List ℕ) (bad : Option ℕ) (reading : Result AbstractQuery QueryFault) → first_bad bytes ≡ bad → query_reading text ≡ reading → decided bytes text ≡ deciding bad (lines_of bytes) reading
+decided-by : (bytes text : List ℕ) (bad : Option ℕ) (result : Result AbstractQuery QueryFault) → first_bad bytes ≡ bad → query_reading text ≡ result → decided bytes text ≡ deciding bad (lines_of bytes) result
 unfolding decided
-decided-by bytes text bad reading is read = ap (λ b. deciding b (lines_of bytes) (query_reading text)) is ∙ ap (deciding bad (lines_of bytes)) read
+decided-by bytes text bad result is found = ap (λ b. deciding b (lines_of bytes) (query_reading text)) is ∙ ap (deciding bad (lines_of bytes)) found
 
 abbrev answer_text : AbstractQuery → List Triple → List ℕ
 answer_text query triples = tsv_text query (answers_to query (graph_of triples))
 
-pub answer-decided : (bytes text printed : List ℕ) → IsAnswer bytes text printed → decided bytes text ≡ answered printed
+-- a list of triples has one graph
+graph-is : (triples graph : List Triple) → IsGraph triples graph ↔ (graph ≡ graph_of triples)
+graph-is = IsSetOf-set_of triple_cmp triple_cmp-total triple_cmp-exact
+
+answer-decided : (bytes text printed : List ℕ) → IsAnswer bytes text printed → decided bytes text ≡ answered printed
 answer-decided bytes text printed is =
-    let read = triples-read bytes is.triples is.are_triples in
-    decided-by bytes text None (Ok is.query) read.none (denotes-reading text is.query is.denoted)
-    ∙ ap (λ ts. answered (answer_text is.query ts)) (sym read.are)
+    let spelled = triples-read bytes is.triples is.are_triples in
+    let same : is.graph ≡ graph_of is.triples = (graph-is is.triples is.graph).0 is.is_graph in
+    decided-by bytes text None (Ok is.query) spelled.none (denotes-reading text is.query is.denoted)
+    ∙ ap (λ ts. answered (answer_text is.query ts)) (sym spelled.are)
+    ∙ ap (λ graph. answered (tsv_text is.query (answers_to is.query graph))) (sym same)
     ∙ ap answered (sym is.is_text)
 
-pub bad_line-decided : (bytes text line : List ℕ) → IsBadData bytes line → decided bytes text ≡ refused 2 line
+bad_line-decided : (bytes text line : List ℕ) → IsBadData bytes line → decided bytes text ≡ refused 2 line
 bad_line-decided bytes text line is =
     decided-by bytes text (Some is.number) (query_reading text) ((first_bad-found bytes is.number).1 is.is_bad) refl
     ∙ ap (refused 2) (sym is.is_line)
 
-pub refusal-decided : (bytes text line : List ℕ) → IsRefusal bytes text line → decided bytes text ≡ refused 3 line
-refusal-decided bytes text line is =
-    decided-by bytes text None (Err is.fault) (triples-read bytes is.triples is.are_triples).none (fault-reading text is.fault is.is_fault)
-    ∙ ap (refused 3) (sym is.is_line)
+refused-decided : (bytes text line : List ℕ) (triples : List Triple) (refusal : QueryRefusal) → AreNTriples bytes triples → IsRefusedFor text refusal → line ≡ query_line refusal → decided bytes text ≡ refused 3 line
+refused-decided bytes text line triples (Fault fault) are is is_line =
+    decided-by bytes text None (Err fault) (triples-read bytes triples are).none (fault-reading text fault is)
+    ∙ ap (refused 3) (sym is_line)
 
--- a verdict tells what is read by its status
-other-status : (a b : Verdict) → a ≡ b → a.status ≢ b.status → ⊥
-other-status a b e other = other (ap (λ (v : Verdict). v.status) e)
+refusal-decided : (bytes text line : List ℕ) → IsRefusal bytes text line → decided bytes text ≡ refused 3 line
+refusal-decided bytes text line is = refused-decided bytes text line is.triples is.refusal is.are_triples is.is_refused is.is_line
 
-same-line : (a b : Verdict) → a ≡ b → a.line ≡ b.line
-same-line a b e = ap (λ (v : Verdict). v.line) e
+-- what decides, both ways
 
-decided-reading : (bytes text : List ℕ) (verdict : Verdict) → decided bytes text ≡ verdict → deciding (first_bad bytes) (lines_of bytes) (query_reading text) ≡ verdict
-decided-reading bytes text verdict e = sym (decided-by bytes text (first_bad bytes) (query_reading text) refl refl) ∙ e
-
-answer-read : (bytes text printed : List ℕ) (bad : Option ℕ) (reading : Result AbstractQuery QueryFault) → first_bad bytes ≡ bad → query_reading text ≡ reading →
-    deciding bad (lines_of bytes) reading ≡ answered printed → IsAnswer bytes text printed
-answer-read bytes text printed (Some n) reading is read e = absurd (other-status (refused 2 (bad_line_line n)) (answered printed) e (λ e. absurd (omega arith)))
-answer-read bytes text printed None (Err fault) is read e = absurd (other-status (refused 3 (query_line fault)) (answered printed) e (λ e. absurd (omega arith)))
-answer-read bytes text printed None (Ok query) is read e = record {
+answer-read : (bytes text : List ℕ) (query : AbstractQuery) → first_bad bytes ≡ None → query_reading text ≡ Ok query → IsAnswer bytes text (answer_text query (triples_of (lines_of bytes)))
+answer-read bytes text query none is = record {
   triples = triples_of (lines_of bytes);
+  graph = graph_of (triples_of (lines_of bytes));
   query = query;
-  are_triples = read-triples bytes is;
-  denoted = reading-denotes text query read;
-  is_text = sym (ap (λ (v : Verdict). v.text) e);
+  are_triples = read-triples bytes none;
+  is_graph = (graph-is (triples_of (lines_of bytes)) (graph_of (triples_of (lines_of bytes)))).1 refl;
+  denoted = reading-denotes text query is;
+  is_text = refl;
 }
 
-bad_line-read : (bytes line : List ℕ) (bad : Option ℕ) (reading : Result AbstractQuery QueryFault) → first_bad bytes ≡ bad →
-    deciding bad (lines_of bytes) reading ≡ refused 2 line → IsBadData bytes line
-bad_line-read bytes line (Some n) reading is e = record { number = n; is_bad = (first_bad-found bytes n).0 is; is_line = sym (same-line (refused 2 (bad_line_line n)) (refused 2 line) e) }
-bad_line-read bytes line None (Err fault) is e = absurd (other-status (refused 3 (query_line fault)) (refused 2 line) e (λ e. absurd (omega arith)))
-bad_line-read bytes line None (Ok query) is e = absurd (other-status (answered (answer_text query (triples_of (lines_of bytes)))) (refused 2 line) e (λ e. absurd (omega arith)))
-
-refusal-read : (bytes text line : List ℕ) (bad : Option ℕ) (reading : Result AbstractQuery QueryFault) → first_bad bytes ≡ bad → query_reading text ≡ reading →
-    deciding bad (lines_of bytes) reading ≡ refused 3 line → IsRefusal bytes text line
-refusal-read bytes text line (Some n) reading is read e = absurd (other-status (refused 2 (bad_line_line n)) (refused 3 line) e (λ e. absurd (omega arith)))
-refusal-read bytes text line None (Err fault) is read e = record {
+refusal-read : (bytes text : List ℕ) (fault : QueryFault) → first_bad bytes ≡ None → query_reading text ≡ Err fault → IsRefusal bytes text (fault_line fault)
+refusal-read bytes text fault none is = record {
   triples = triples_of (lines_of bytes);
-  fault = fault;
-  are_triples = read-triples bytes is;
-  is_fault = reading-is_fault text fault read;
-  is_line = sym (same-line (refused 3 (query_line fault)) (refused 3 line) e);
+  refusal = Fault fault;
+  are_triples = read-triples bytes none;
+  is_refused = reading-is_fault text fault is;
+  is_line = refl;
 }
-refusal-read bytes text line None (Ok query) is read e = absurd (other-status (answered (answer_text query (triples_of (lines_of bytes)))) (refused 3 line) e (λ e. absurd (omega arith)))
 
-pub decided-answer : (bytes text printed : List ℕ) → decided bytes text ≡ answered printed → IsAnswer bytes text printed
-decided-answer bytes text printed e =
-    answer-read bytes text printed (first_bad bytes) (query_reading text) refl refl (decided-reading bytes text (answered printed) e)
+deciding-is : (bytes text : List ℕ) (bad : Option ℕ) (result : Result AbstractQuery QueryFault) → first_bad bytes ≡ bad → query_reading text ≡ result → IsAnswerOrRefusal bytes text (deciding bad (lines_of bytes) result)
+deciding-is bytes text (Some n) result is found = bad_data (bad_line_line n) (record { number = n; is_bad = (first_bad-found bytes n).0 is; is_line = refl }) refl
+deciding-is bytes text None (Err fault) is found = bad_query (fault_line fault) (refusal-read bytes text fault is found) refl
+deciding-is bytes text None (Ok query) is found = answer (answer_text query (triples_of (lines_of bytes))) (answer-read bytes text query is found) refl
 
-pub decided-bad_line : (bytes text line : List ℕ) → decided bytes text ≡ refused 2 line → IsBadData bytes line
-decided-bad_line bytes text line e = bad_line-read bytes line (first_bad bytes) (query_reading text) refl (decided-reading bytes text (refused 2 line) e)
+decided-is : (bytes text : List ℕ) → IsAnswerOrRefusal bytes text (decided bytes text)
+unfolding decided
+decided-is bytes text = deciding-is bytes text (first_bad bytes) (query_reading text) refl refl
 
-pub decided-refusal : (bytes text line : List ℕ) → decided bytes text ≡ refused 3 line → IsRefusal bytes text line
-decided-refusal bytes text line e =
-    refusal-read bytes text line (first_bad bytes) (query_reading text) refl refl (decided-reading bytes text (refused 3 line) e)
+is-decided : (bytes text : List ℕ) (verdict : Verdict) → IsAnswerOrRefusal bytes text verdict → verdict ≡ decided bytes text
+is-decided bytes text verdict (bad_data line is same) = same ∙ sym (bad_line-decided bytes text line is)
+is-decided bytes text verdict (bad_query line is same) = same ∙ sym (refusal-decided bytes text line is)
+is-decided bytes text verdict (answer printed is same) = same ∙ sym (answer-decided bytes text printed is)
 
 -- files that are there and keep their limits are read
 within-goes : (name : List ℕ) (limit : ℕ) (bytes : List ℕ) (next : List ℕ → Verdict) → length bytes ≤ limit → within name limit bytes next ≡ next bytes
 within-goes name limit bytes next short = ap (λ b. if b then refused 8 (limit_line name limit) else next bytes) (le-ltb limit (length bytes) short)
 
+-- and those that do not are too long
+within-stops : (name : List ℕ) (limit : ℕ) (bytes : List ℕ) (next : List ℕ → Verdict) → limit < length bytes → within name limit bytes next ≡ refused 8 (limit_line name limit)
+within-stops name limit bytes next long =
+    let over : nat_lt limit (length bytes) ≡ true = grind (arith, common_steps) in
+    ap (λ b. if b then refused 8 (limit_line name limit) else next bytes) over
+
 reading-goes : (files : Files) (name : List ℕ) (limit : ℕ) (bytes : List ℕ) (next : List ℕ → Verdict) → get files name ≡ Some bytes → length bytes ≤ limit → reading files name limit next ≡ next bytes
 reading-goes files name limit bytes next found short = ap (λ o. reading_file name limit o next) found ∙ within-goes name limit bytes next short
 
-pub asked-decided : (words : List (List ℕ)) (files : Files) (bytes text : List ℕ) → Asks words files bytes text → verdict_of words files ≡ decided bytes text
-unfolding request_verdict query_verdict
-asked-decided words files bytes text asks =
-    ap (verdict_at files) asks.command
-    ∙ reading-goes files asks.data_name MAX_DATA_BYTES bytes (λ bytes. query_verdict files bytes asks.query_name) asks.data_file asks.data_within
-    ∙ reading-goes files asks.query_name MAX_QUERY_BYTES text (λ text. decided bytes text) asks.query_file asks.query_within
+module _ (files : Files) (name : List ℕ) (limit : ℕ) (next : List ℕ → Verdict) (Next : List ℕ → Verdict → Type 0) where
+  -- where what is next is decided so, the file decides so
+  is-reading : ((bytes : List ℕ) (verdict : Verdict) → Next bytes verdict → verdict ≡ next bytes) → (verdict : Verdict) → IsDecidedBy files name limit Next verdict → verdict ≡ reading files name limit next
+  is-reading after verdict (missing none same) = same ∙ sym (ap (λ o. reading_file name limit o next) none)
+  is-reading after verdict (too_long bytes found long same) = same ∙ sym (ap (λ o. reading_file name limit o next) found ∙ within-stops name limit bytes next long)
+  is-reading after verdict (read bytes found short is) = after bytes verdict is ∙ sym (reading-goes files name limit bytes next found short)
 
-prints-answer : (verdict : Verdict) (printed : List ℕ) (reads reads_now writes writes_now status : ℕ) (m n : Meanings) → verdict ≡ answered printed →
-    IsComplete verdict reads reads_now writes writes_now status → Outputs verdict status m n → Prints printed reads reads_now writes writes_now status m n
-prints-answer verdict printed reads reads_now writes writes_now status m n is complete outputs = record {
+  reading_within : ((bytes : List ℕ) → Next bytes (next bytes)) → (bytes : List ℕ) → get files name ≡ Some bytes → (limit < length bytes) ⊎ (length bytes ≤ limit) → IsDecidedBy files name limit Next (within name limit bytes next)
+  reading_within after bytes found (inl long) = too_long bytes found long (within-stops name limit bytes next long)
+  reading_within after bytes found (inr short) =
+      let is : Next bytes (within name limit bytes next) = subst (Next bytes) (sym (within-goes name limit bytes next short)) (after bytes) in
+      read bytes found short is
+
+  reading_at : ((bytes : List ℕ) → Next bytes (next bytes)) → (file : Option (List ℕ)) → get files name ≡ file → IsDecidedBy files name limit Next (reading_file name limit file next)
+  reading_at after None found = missing found refl
+  reading_at after (Some bytes) found = reading_within after bytes found (cases_lt limit (length bytes))
+
+  -- each file decides
+  reading-is : ((bytes : List ℕ) → Next bytes (next bytes)) → IsDecidedBy files name limit Next (reading files name limit next)
+  reading-is after = reading_at after (get files name) refl
+
+query-is : (files : Files) (bytes query : List ℕ) → IsDecidedBy files query max_query_bytes (IsAnswerOrRefusal bytes) (query_verdict files bytes query)
+unfolding query_verdict
+query-is files bytes query = reading-is files query max_query_bytes (λ text. decided bytes text) (IsAnswerOrRefusal bytes) (decided-is bytes)
+
+is-query : (files : Files) (bytes query : List ℕ) (verdict : Verdict) → IsDecidedBy files query max_query_bytes (IsAnswerOrRefusal bytes) verdict → verdict ≡ query_verdict files bytes query
+unfolding query_verdict
+is-query files bytes query verdict is = is-reading files query max_query_bytes (λ text. decided bytes text) (IsAnswerOrRefusal bytes) (is-decided bytes) verdict is
+
+ask-is : (files : Files) (file query : List ℕ) → IsAskVerdict files file query (request_verdict files (ask file query))
+unfolding request_verdict
+ask-is files file query =
+    reading-is files file max_data_bytes (λ bytes. query_verdict files bytes query) (λ bytes. IsDecidedBy files query max_query_bytes (IsAnswerOrRefusal bytes)) (λ bytes. query-is files bytes query)
+
+is-ask : (files : Files) (file query : List ℕ) (verdict : Verdict) → IsAskVerdict files file query verdict → verdict ≡ request_verdict files (ask file query)
+unfolding request_verdict
+is-ask files file query verdict is =
+    is-reading files file max_data_bytes (λ bytes. query_verdict files bytes query) (λ bytes. IsDecidedBy files query max_query_bytes (IsAnswerOrRefusal bytes)) (λ bytes. is-query files bytes query) verdict is
+
+verdict_at-is : (words : List (List ℕ)) (files : Files) (request : Option Request) → request_of words ≡ request → IsVerdict words files (verdict_at files request)
+verdict_at-is words files None is = usage is refl
+verdict_at-is words files (Some (ask file query)) is = asks file query is (ask-is files file query)
+
+-- words and files have a verdict
+pub verdict_of-is : (words : List (List ℕ)) (files : Files) → IsVerdict words files (verdict_of words files)
+verdict_of-is words files = verdict_at-is words files (request_of words) refl
+
+-- and no other
+pub is-verdict_of : (words : List (List ℕ)) (files : Files) (verdict : Verdict) → IsVerdict words files verdict → verdict ≡ verdict_of words files
+is-verdict_of words files verdict (usage none same) = same ∙ sym (ap (verdict_at files) none)
+is-verdict_of words files verdict (asks file query is decided) = is-ask files file query verdict decided ∙ sym (ap (verdict_at files) is)
+
+-- what holds of the verdict that the function gives holds of the verdict
+pub of_verdict : (words : List (List ℕ)) (files : Files) (P : Verdict → Type 0) → P (verdict_of words files) → (verdict : Verdict) → IsVerdict words files verdict → P verdict
+of_verdict words files P h verdict is = subst P (sym (is-verdict_of words files verdict is)) h
+
+-- words that ask the query of one file over the data of another
+asked-decided : (words : List (List ℕ)) (files : Files) (bytes text : List ℕ) → Asks words files bytes text → verdict_of words files ≡ decided bytes text
+unfolding request_verdict query_verdict
+asked-decided words files bytes text asked =
+    ap (verdict_at files) asked.command
+    ∙ reading-goes files asked.data_name max_data_bytes bytes (λ bytes. query_verdict files bytes asked.query_name) asked.data_file asked.data_within
+    ∙ reading-goes files asked.query_name max_query_bytes text (λ text. decided bytes text) asked.query_file asked.query_within
+
+prints-answer : (verdict : Verdict) (printed : List ℕ) (before now : Faults) (status : ℕ) (m n : Meanings) → verdict ≡ answered printed →
+    IsComplete verdict before now status → Outputs verdict status m n → Prints printed before now status m n
+prints-answer verdict printed before now status m n is complete outputs = record {
   ends = λ no_read no_write. elim (complete no_read no_write) [ inl same ↦ inl (same ∙ ap (λ (v : Verdict). v.status) is) | inr memory ↦ inr memory ];
   whole = λ done. outputs.whole done ∙ ap (λ (v : Verdict). m.printed ++ v.text) is;
+  quiet = outputs.quiet;
 }
 
 -- the headline, of what is complete and what is printed
-abbrev Answers : List (List ℕ) → ℕ → ℕ → ℕ → ℕ → ℕ → Meanings → Meanings → Type 0
-Answers words reads reads_now writes writes_now status m n =
-    (bytes text printed : List ℕ) → Asks words m.files bytes text → IsAnswer bytes text printed → Prints printed reads reads_now writes writes_now status m n
-
-pub answers-printed : (words : List (List ℕ)) (told told_now : Option Meanings) (reads reads_now writes writes_now status : ℕ) →
-    Step told told_now (λ m n. IsComplete (verdict_of words m.files) reads reads_now writes writes_now status) →
-    Step told told_now (λ m n. Outputs (verdict_of words m.files) status m n) →
-    Step told told_now (Answers words reads reads_now writes writes_now status)
-answers-printed words told told_now reads reads_now writes writes_now status complete outputs = record {
-  silent = complete.silent;
-  moves = λ m n was is bytes text printed asks answer.
-      prints-answer (verdict_of words m.files) printed reads reads_now writes writes_now status m n
-      (asked-decided words m.files bytes text asks ∙ answer-decided bytes text printed answer)
-      (complete.moves m n was is) (outputs.moves m n was is);
-}
+pub answers-printed : (words : List (List ℕ)) (before now : Faults) (status : ℕ) (m n : Meanings) → IsComplete (verdict_of words m.files) before now status → Outputs (verdict_of words m.files) status m n →
+    (bytes text printed : List ℕ) → Asks words m.files bytes text → IsAnswer bytes text printed → Prints printed before now status m n
+answers-printed words before now status m n complete outputs bytes text printed asked is =
+    prints-answer (verdict_of words m.files) printed before now status m n
+    (asked-decided words m.files bytes text asked ∙ answer-decided bytes text printed is)
+    complete outputs

@@ -1,7 +1,6 @@
 -- The commands of the program, as words.
-use Rattle.std.specs.Prelude.{ℕ, ◌&&◌, bytes_eq, if◌then◌else◌, List, [], ◌∷◌, Option, Some, None}
-use Rattle.bm_top.specs.declared.command.Command.{Command}
-use Rattle.bm_top.specs.declared.command.TheConstants.{ASK, TSV}
+use Rattle.std.specs.Prelude.{ℕ, ◌&&◌, bytes_eq, codes, if◌then◌else◌, List, [], ◌∷◌, Option, Some, None}
+use Rattle.std.specs.Option.{option_map_or}
 
 -- what is asked for: `ask DATA QUERY tsv` answers the query of one file over the data of another
 pub data Request : Type 0 where
@@ -10,9 +9,13 @@ pub data Request : Type 0 where
 -- the request that some words are, if they are a row of the table of commands
 abbrev pub request_of : List (List ℕ) → Option Request
 request_of (command ∷ file ∷ query ∷ form ∷ []) =
-    if bytes_eq command ASK.now && bytes_eq form TSV.now then Some (ask file query) else None
+    if bytes_eq command (codes "ask") && bytes_eq form (codes "tsv") then Some (ask file query) else None
 request_of words = None
 
--- the request that the code's command is
-abbrev pub requested : Command → Request
-requested command = ask command.data.now command.query.now
+-- the files that a request reads, in their order
+abbrev pub files_read : Request → List (List ℕ)
+files_read (ask file query) = file ∷ query ∷ []
+
+-- the files that the command of some words reads: none where the words are no command
+abbrev pub names_read : Option Request → List (List ℕ)
+names_read request = option_map_or files_read request []

@@ -1,10 +1,7 @@
 pub mod Command
-pub mod Decide
-pub mod Ending
-pub mod QueryLine
-pub mod Reading
-pub mod RowOrder
+pub mod Lines
 pub mod Run
 pub mod Standard
 pub mod Tsv
 pub mod Verdict
+pub mod steps

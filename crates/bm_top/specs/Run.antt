@@ -1,14 +1,25 @@
 -- What the whole program promises, in terms of the verdict of its words on the files.
-use Rattle.std.specs.Prelude.{◌≡◌, ◌≢◌, ◌⊎◌, ℕ, ◌++◌, List, take, Option, IsSomeAnd}
-use Rattle.bm_world.specs.Meanings.{Files, Meanings}
-use Rattle.bm_world.specs.World.{Rose}
-use Rattle.bm_top.specs.declared.ending.TheConstants.{WRITE_FAULT, OUT_OF_MEMORY}
-use Rattle.bm_top.specs.Verdict.{Verdict, read_fault_line}
+-- Nothing here tells how data or a query is read.
+use Rattle.std.specs.Prelude.{◌≡◌, ◌≢◌, ◌⊎◌, ℕ, ◌++◌, List, take, Contains, Option, None, IsSomeAnd}
+use Rattle.bm_world.specs.declared.world.Faults.{Faults}
+use Rattle.bm_world.specs.Meanings.{Meanings}
+use Rattle.bm_world.specs.World.{Rose, Step}
+use Rattle.bm_top.specs.Command.{names_read, request_of}
+use Rattle.bm_top.specs.Lines.{read_fault_line, write_fault_line, out_of_memory_line}
+use Rattle.bm_top.specs.Standard.{Asks, IsAnswer, IsVerdict}
+use Rattle.bm_top.specs.Verdict.{Verdict, files_after, HasFrontOf}
+
+-- the text is printed whole where the status is 0, and nothing is written to standard error then; without a failing
+-- call the status is 0, or 7
+pub record Prints (text : List ℕ) (before now : Faults) (status : ℕ) (m n : Meanings) : Type 0 where
+  pub ends : ¬ Rose before.reads now.reads → ¬ Rose before.writes now.writes → (status ≡ 0) ⊎ (status ≡ 7)
+  pub whole : status ≡ 0 → n.printed ≡ m.printed ++ text
+  pub quiet : status ≡ 0 → n.complained ≡ m.complained
 
 -- where no count of faults rose, the status is that of the verdict, or that of want of memory
-abbrev pub IsComplete : Verdict → ℕ → ℕ → ℕ → ℕ → ℕ → Type 0
-IsComplete verdict reads reads_now writes writes_now status =
-    ¬ Rose reads reads_now → ¬ Rose writes writes_now → (status ≡ verdict.status) ⊎ (status ≡ 7)
+abbrev pub IsComplete : Verdict → Faults → Faults → ℕ → Type 0
+IsComplete verdict before now status =
+    ¬ Rose before.reads now.reads → ¬ Rose before.writes now.writes → (status ≡ verdict.status) ⊎ (status ≡ 7)
 
 -- also after a fault, an answer is the verdict's
 pub record IsHonest (verdict : Verdict) (status : ℕ) : Type 0 where
@@ -22,24 +33,49 @@ pub record Outputs (verdict : Verdict) (status : ℕ) (m n : Meanings) : Type 0 
   pub front : (status ≡ 6) ⊎ (status ≡ 7) → (count : ℕ) × (n.printed ≡ m.printed ++ take count verdict.text)
   pub nothing : status ≢ 0 → status ≢ 6 → status ≢ 7 → n.printed ≡ m.printed
 
--- no file is changed, and one that is being made goes on being made
-pub record KeepsFiles (m n : Meanings) : Type 0 where
-  pub files : n.files ≡ m.files
+-- the files are those of the verdict at 0, and as they were at every other status, but that at 6 the file that is
+-- written may be there with a front of its bytes; a file that is being made goes on being made
+pub record LeavesFiles (verdict : Verdict) (status : ℕ) (m n : Meanings) : Type 0 where
+  pub whole : status ≡ 0 → n.files ≡ files_after verdict m.files
+  pub front : status ≡ 6 → HasFrontOf verdict m.files n.files
+  pub kept : status ≢ 0 → status ≢ 6 → n.files ≡ m.files
   pub made : n.made ≡ m.made
 
 -- what shows that a call failed
-pub record HasCauses (verdict : Files → Verdict) (told : Option Meanings) (reads reads_now writes writes_now status : ℕ) : Type 0 where
-  pub read_fault : status ≡ 5 → Rose reads reads_now ⊎ IsSomeAnd told (λ m. (verdict m.files).status ≡ 5)
-  pub write_fault : status ≡ 6 → Rose writes writes_now
+pub record HasCauses (words : List (List ℕ)) (told : Option Meanings) (before now : Faults) (status : ℕ) : Type 0 where
+  pub read_fault : status ≡ 5 → Rose before.reads now.reads
+      ⊎ IsSomeAnd told (λ m. (verdict : Verdict) × IsVerdict words m.files verdict × (verdict.status ≡ 5))
+  pub write_fault : status ≡ 6 → Rose before.writes now.writes
 
--- this line was complained, or some front of it where a call of `complain` failed
-pub record ComplainsLine (line : List ℕ) (says says_now : ℕ) (m n : Meanings) : Type 0 where
+-- this line was written to standard error, or some front of it where a call of `complain` failed
+pub record ComplainsLine (line : List ℕ) (before now : Faults) (m n : Meanings) : Type 0 where
   pub front : (count : ℕ) × (n.complained ≡ m.complained ++ take count line)
-  pub whole : ¬ Rose says says_now → n.complained ≡ m.complained ++ line
+  pub whole : ¬ Rose before.says now.says → n.complained ≡ m.complained ++ line
 
--- which line it is: at 5 after a fault, that of a file whose name is not told here
-pub record Complains (verdict : Verdict) (reads reads_now says says_now status : ℕ) (m n : Meanings) : Type 0 where
-  pub verdict_line : status ≢ 0 → status ≢ 6 → status ≢ 7 → (status ≡ 5 → ¬ Rose reads reads_now) → ComplainsLine verdict.line says says_now m n
-  pub read_line : status ≡ 5 → (name : List ℕ) × ComplainsLine (read_fault_line name) says says_now m n
-  pub write_line : status ≡ 6 → ComplainsLine WRITE_FAULT.now says says_now m n
-  pub memory_line : status ≡ 7 → ComplainsLine OUT_OF_MEMORY.now says says_now m n
+-- which line it is: the verdict's, but that after a failed read it names one of the files that the command reads
+pub record Complains (names : List (List ℕ)) (verdict : Verdict) (before now : Faults) (status : ℕ) (m n : Meanings) : Type 0 where
+  pub verdict_line : status ≢ 0 → status ≢ 6 → status ≢ 7 → (status ≡ 5 → ¬ Rose before.reads now.reads) → ComplainsLine verdict.line before now m n
+  pub read_line : status ≡ 5 → (name : List ℕ) × Contains names name × ComplainsLine (read_fault_line name) before now m n
+  pub write_line : status ≡ 6 → ComplainsLine write_fault_line before now m n
+  pub memory_line : status ≡ 7 → ComplainsLine out_of_memory_line before now m n
+
+-- the named files are opened in turn, each once, up to some of them; no other is
+abbrev pub OpensInTurn : List (List ℕ) → Meanings → Meanings → Type 0
+OpensInTurn names m n = (count : ℕ) × (n.opened ≡ m.opened ++ take count names)
+
+-- nothing moves but standard error
+abbrev pub OnlyComplains : Meanings → Meanings → Type 0
+OnlyComplains m n = n ≡ record m { complained = n.complained }
+
+-- all that the program promises for these words, between its entry and its exit
+pub record KeepsPromises (words : List (List ℕ)) (told told_now : Option Meanings) (before now : Faults) (status : ℕ) : Type 0 where
+  pub answers : Step told told_now (λ m n. (bytes text printed : List ℕ) → Asks words m.files bytes text → IsAnswer bytes text printed → Prints printed before now status m n)
+  pub usage : request_of words ≡ None → status ≡ 1
+  pub usage_moves_nothing : Step told told_now (λ m n. request_of words ≡ None → OnlyComplains m n)
+  pub complete : Step told told_now (λ m n. (verdict : Verdict) → IsVerdict words m.files verdict → IsComplete verdict before now status)
+  pub honest : Step told told_now (λ m n. (verdict : Verdict) → IsVerdict words m.files verdict → IsHonest verdict status)
+  pub output : Step told told_now (λ m n. (verdict : Verdict) → IsVerdict words m.files verdict → Outputs verdict status m n)
+  pub files : Step told told_now (λ m n. (verdict : Verdict) → IsVerdict words m.files verdict → LeavesFiles verdict status m n)
+  pub causes : HasCauses words told before now status
+  pub refusal_line : Step told told_now (λ m n. (verdict : Verdict) → IsVerdict words m.files verdict → Complains (names_read (request_of words)) verdict before now status m n)
+  pub opens : Step told told_now (OpensInTurn (names_read (request_of words)))

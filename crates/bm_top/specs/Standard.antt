@@ -1,21 +1,21 @@
--- What a command is to answer: by the relations of what lines spell and what a text denotes, and by the definitions of
--- the algebra, of the order of rows and of the text. Nothing here tells how data or a query is read.
+-- What a command is to do: by the relations of what lines spell and what a text denotes, and by the definitions of the
+-- algebra, of the order of rows and of the text. Nothing here tells how data or a query is read.
 -- N-Triples 1.1, section 7; SPARQL 1.1 Query, sections 18.2, 18.5 and 19.8.
-use Rattle.std.specs.Prelude.{◌≡◌, ◌⊎◌, ℕ, ◌≤◌, List, ◌++◌, length, Some}
+use Rattle.std.specs.Prelude.{◌≡◌, ◌⊎◌, ℕ, ◌<◌, ◌≤◌, List, ◌++◌, length, None, Some}
 use Rattle.std.specs.FinMap.{get}
 use Rattle.bm_term.specs.declared.triple.Triple.{Triple}
-use Rattle.bm_term.specs.Graph.{graph_of}
+use Rattle.bm_term.specs.Graph.{IsGraph}
 use Rattle.nt_read.specs.Lines.{AreLines, IsFirstBadLine, SpellTriples}
-use Rattle.alg_model.specs.Answers.{AbstractQuery, answers_to}
-use Rattle.sparql_parse.specs.declared.fault.QueryFault.{QueryFault}
+use Rattle.alg_model.specs.Answers.{answers_to}
+use Rattle.alg_model.specs.Query.{AbstractQuery}
 use Rattle.sparql_parse.specs.Denotes.{Denotes, IsFaultOf}
-use Rattle.bm_world.specs.Meanings.{Files, Meanings}
-use Rattle.bm_world.specs.World.{Rose}
-use Rattle.bm_top.specs.declared.steps.TheConstants.{MAX_DATA_BYTES, MAX_QUERY_BYTES}
+use Rattle.bm_world.specs.Meanings.{Files}
+use Rattle.bm_top.specs.declared.refusal.QueryRefusal.{QueryRefusal}
+use Rattle.bm_top.specs.declared.refusal.QueryRefusal.TheVariants.{Fault}
 use Rattle.bm_top.specs.Command.{ask, request_of}
-use Rattle.bm_top.specs.QueryLine.{query_line}
+use Rattle.bm_top.specs.Lines.{max_data_bytes, max_query_bytes, usage_line, read_fault_line, limit_line, bad_line_line, query_line}
 use Rattle.bm_top.specs.Tsv.{tsv_text}
-use Rattle.bm_top.specs.Verdict.{bad_line_line}
+use Rattle.bm_top.specs.Verdict.{Verdict, answered, refused}
 
 -- the bytes are N-Triples: lines between line ends, which spell these triples one after another
 pub record AreNTriples (bytes : List ℕ) (triples : List Triple) : Type 0 where
@@ -26,10 +26,12 @@ pub record AreNTriples (bytes : List ℕ) (triples : List Triple) : Type 0 where
 -- the text of the solutions of a query over the set of triples of the data
 pub record IsAnswer (bytes text printed : List ℕ) : Type 0 where
   pub triples : List Triple
+  pub graph : List Triple
   pub query : AbstractQuery
   pub are_triples : AreNTriples bytes triples
+  pub is_graph : IsGraph triples graph
   pub denoted : Denotes text query
-  pub is_text : printed ≡ tsv_text query (answers_to query (graph_of triples))
+  pub is_text : printed ≡ tsv_text query (answers_to query graph)
 
 -- the line of the first bad line of the data
 pub record IsBadData (bytes line : List ℕ) : Type 0 where
@@ -37,13 +39,43 @@ pub record IsBadData (bytes line : List ℕ) : Type 0 where
   pub is_bad : IsFirstBadLine bytes number
   pub is_line : line ≡ bad_line_line number
 
--- the line of the first fault of a query over data without one
+-- why a text is refused as a query: it has a fault
+abbrev pub IsRefusedFor : List ℕ → QueryRefusal → Type 0
+IsRefusedFor text (Fault fault) = IsFaultOf text fault
+
+-- the line of the refusal of a query over data without a bad line
 pub record IsRefusal (bytes text line : List ℕ) : Type 0 where
   pub triples : List Triple
-  pub fault : QueryFault
+  pub refusal : QueryRefusal
   pub are_triples : AreNTriples bytes triples
-  pub is_fault : IsFaultOf text fault
-  pub is_line : line ≡ query_line fault
+  pub is_refused : IsRefusedFor text refusal
+  pub is_line : line ≡ query_line refusal
+
+-- The verdict of a command: the first step in its order that has a condition that holds.
+
+-- a file is read: it has to be there, and to keep its limit; its bytes decide with what is next
+pub data IsDecidedBy (files : Files) (name : List ℕ) (limit : ℕ) (Next : List ℕ → Verdict → Type 0) (verdict : Verdict) : Type 0 where
+  missing : get files name ≡ None → verdict ≡ refused 5 (read_fault_line name) → IsDecidedBy files name limit Next verdict
+  too_long : (bytes : List ℕ) → get files name ≡ Some bytes → limit < length bytes → verdict ≡ refused 8 (limit_line name limit)
+      → IsDecidedBy files name limit Next verdict
+  read : (bytes : List ℕ) → get files name ≡ Some bytes → length bytes ≤ limit → Next bytes verdict → IsDecidedBy files name limit Next verdict
+
+-- data and a query: a bad line of the data, then a refusal of the query, and otherwise the answer
+pub data IsAnswerOrRefusal (bytes text : List ℕ) (verdict : Verdict) : Type 0 where
+  bad_data : (line : List ℕ) → IsBadData bytes line → verdict ≡ refused 2 line → IsAnswerOrRefusal bytes text verdict
+  bad_query : (line : List ℕ) → IsRefusal bytes text line → verdict ≡ refused 3 line → IsAnswerOrRefusal bytes text verdict
+  answer : (printed : List ℕ) → IsAnswer bytes text printed → verdict ≡ answered printed → IsAnswerOrRefusal bytes text verdict
+
+-- `ask DATA QUERY tsv`: DATA is read, then QUERY, and then both are looked at
+abbrev pub IsAskVerdict : Files → List ℕ → List ℕ → Verdict → Type 0
+IsAskVerdict files data_name query_name verdict =
+    IsDecidedBy files data_name max_data_bytes (λ bytes. IsDecidedBy files query_name max_query_bytes (IsAnswerOrRefusal bytes)) verdict
+
+-- the verdict of these words on these files
+pub data IsVerdict (words : List (List ℕ)) (files : Files) (verdict : Verdict) : Type 0 where
+  usage : request_of words ≡ None → verdict ≡ refused 1 usage_line → IsVerdict words files verdict
+  asks : (data_name query_name : List ℕ) → request_of words ≡ Some (ask data_name query_name) → IsAskVerdict files data_name query_name verdict
+      → IsVerdict words files verdict
 
 -- the words ask the query of one file over the data of another; both are there, and keep their limits
 pub record Asks (words : List (List ℕ)) (files : Files) (bytes text : List ℕ) : Type 0 where
@@ -52,10 +84,5 @@ pub record Asks (words : List (List ℕ)) (files : Files) (bytes text : List ℕ
   pub command : request_of words ≡ Some (ask data_name query_name)
   pub data_file : get files data_name ≡ Some bytes
   pub query_file : get files query_name ≡ Some text
-  pub data_within : length bytes ≤ MAX_DATA_BYTES
-  pub query_within : length text ≤ MAX_QUERY_BYTES
-
--- the text is printed whole where the status is 0; without a failing call the status is 0, or 7
-pub record Prints (text : List ℕ) (reads reads_now writes writes_now status : ℕ) (m n : Meanings) : Type 0 where
-  pub ends : ¬ Rose reads reads_now → ¬ Rose writes writes_now → (status ≡ 0) ⊎ (status ≡ 7)
-  pub whole : status ≡ 0 → n.printed ≡ m.printed ++ text
+  pub data_within : length bytes ≤ max_data_bytes
+  pub query_within : length text ≤ max_query_bytes

@@ -3,17 +3,26 @@
 use Rattle.std.specs.Prelude.{ℕ, List, [], ◌∷◌, ◌++◌, map, Option, Some, None, slice_index_or}
 use Rattle.std.specs.List.{flat_map, join_with_byte}
 use Rattle.alg_model.specs.declared.var.Var.{Var}
-use Rattle.alg_model.specs.Answers.{AbstractQuery}
+use Rattle.alg_model.specs.Query.{AbstractQuery}
 use Rattle.alg_model.specs.Row.{Row}
-use Rattle.bm_top.specs.declared.tsv.TheConstants.{QUESTION, TAB, LINE_FEED}
+
+-- TAB, LF and the question mark
+abbrev pub tab : ℕ
+tab = 9
+
+abbrev pub line_feed : ℕ
+line_feed = 10
+
+abbrev pub question_mark : ℕ
+question_mark = 63
 
 -- parts with a tab between each two, and a line end
 abbrev pub tsv_line : List (List ℕ) → List ℕ
-tsv_line parts = join_with_byte TAB parts ++ LINE_FEED ∷ []
+tsv_line parts = join_with_byte tab parts ++ line_feed ∷ []
 
--- the name of a variable behind its mark
+-- the name of a variable after its mark
 abbrev pub marked_name : List (List ℕ) → Var → List ℕ
-marked_name names var = QUESTION ∷ slice_index_or names var.0 []
+marked_name names var = question_mark ∷ slice_index_or names var.0 []
 
 abbrev pub cell_text : Option (List ℕ) → List ℕ
 cell_text None = []

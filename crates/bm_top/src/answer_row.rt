@@ -5,7 +5,7 @@ ghost use Rattle.std.specs.Cmp.Lexicographic.{pointwise, slice_cmp};
 ghost use Rattle.std.specs.Cmp.Rules.{comparing};
 ghost use Rattle.std.specs.Option.{option_cmp, option_eq};
 ghost use Rattle.std.specs.Ordering.{nat_cmp, as_partial_cmp};
-ghost use Rattle.bm_top.specs.RowOrder.{rows_tie};
+ghost use Rattle.bm_top.specs.steps.RowOrder.{rows_tie};
 
 use bm_term::Term;
 use std::alloc::{AllocError, Global};

@@ -1,13 +1,14 @@
 ghost use Rattle.std.specs.Prelude.{◌≡◌, map};
 ghost use Rattle.std.specs.Option.{option_map};
 ghost use Rattle.std.specs.String.{string_bytes};
-ghost use Rattle.bm_top.specs.Command.{request_of, requested};
+ghost use Rattle.bm_top.specs.Command.{request_of};
+ghost use Rattle.bm_top.specs.steps.Requested.{requested};
 
-pub const ASK: &str = "ask";
+const ASK: &str = "ask";
 
-pub const TSV: &str = "tsv";
+const TSV: &str = "tsv";
 
-/// The command that is built: `ask`, with the names of its two files.
+/// The command that is built: `ask`, which answers the query of one file over the data of another.
 #[derive(Clone, Copy, Debug)]
 pub(crate) struct Command<'a> {
     pub(crate) data: &'a str,

@@ -2,49 +2,72 @@ ghost use Rattle.std.specs.Prelude.{◌≡◌};
 ghost use Rattle.std.specs.List.{flat_map};
 ghost use Rattle.bm_world.specs.Meanings.{with_complained};
 ghost use Rattle.bm_world.specs.World.{Step, RisesOnErr, AppendsAll};
-ghost use Rattle.bm_top.specs.Ending.{line_of};
-ghost use Rattle.bm_top.specs.QueryLine.{query_line, refused_at};
+ghost use Rattle.bm_top.specs.steps.Ending.{line_of};
+ghost use Rattle.bm_top.specs.Lines.{fault_line, refusal_line, refused_at};
 
-use crate::ending::{
-    AT_BYTE, BAD_LINE, BYTES, Ending, IS_LONGER, LIMIT, LINE_END, OUT_OF_MEMORY, QUERY_REFUSED,
-    READ_FAULT, SYNTAX, TOO_DEEP, TOO_MANY_GROUPS, TOO_MANY_OPTIONALS, TOO_MANY_PATTERNS,
-    TOO_MANY_VARIABLES, UNKNOWN_PREFIX, UNSUPPORTED, USAGE, WRITE_FAULT,
-};
+use crate::ending::Ending;
+use crate::refusal::{QueryRefusal, Refusal};
 use bm_world::{Failed, World, complain_all};
 use itoa::Buffer;
 use sparql_parse::QueryFault;
 
+const USAGE: &[u8] =
+    b"usage: bitmat ask DATA QUERY tsv|json | load DATA INDEX | query INDEX QUERY tsv|json | check INDEX | explain INDEX QUERY | trial N\n";
+
+const WRITE_FAULT: &[u8] = b"write fault\n";
+
+const OUT_OF_MEMORY: &[u8] = b"out of memory\n";
+
+const LINE_END: &[u8] = b"\n";
+
 /// Complains the line of an ending, in pieces that take no memory.
 pub(crate) fn complain_ending<W: World>(ending: &Ending<'_>, world: &mut W) -> Result<(), Failed>
     ensures step { Step (W.told world.old) (W.told world.new) (AppendsAll with_complained (line_of ending.now) result) }
-    ensures cause { RisesOnErr (W.say_faults world.old) (W.say_faults world.new) result }
-    ensures read_faults_stay { W.read_faults world.new ≡ W.read_faults world.old }
-    ensures write_faults_stay { W.write_faults world.new ≡ W.write_faults world.old }
+    ensures cause { RisesOnErr (W.faults world.old).says (W.faults world.new).says result }
+    ensures reads_stay { (W.faults world.new).reads ≡ (W.faults world.old).reads }
+    ensures writes_stay { (W.faults world.new).writes ≡ (W.faults world.old).writes }
 {
-    let mut number = Buffer::new();
     match ending {
         Ending::Done => Ok(()),
-        Ending::Usage => complain_all(world, USAGE),
-        Ending::QueryRefused { fault } => complain_fault(*fault, world),
+        Ending::Refused { refusal } => complain_refusal(refusal, world),
+        Ending::ReadFault { name } => {
+            complain_pieces(world, &[b"read fault: ", name.as_bytes(), LINE_END])
+        }
         Ending::WriteFault => complain_all(world, WRITE_FAULT),
         Ending::Memory => complain_all(world, OUT_OF_MEMORY),
-        Ending::ReadFault { name } => {
-            complain_pieces(world, &[READ_FAULT, name.as_bytes(), LINE_END])
-        }
-        Ending::BadLine { line } => {
+    }
+}
+
+fn complain_refusal<W: World>(refusal: &Refusal<'_>, world: &mut W) -> Result<(), Failed>
+    ensures step { Step (W.told world.old) (W.told world.new) (AppendsAll with_complained (refusal_line refusal.now) result) }
+    ensures cause { RisesOnErr (W.faults world.old).says (W.faults world.new).says result }
+    ensures reads_stay { (W.faults world.new).reads ≡ (W.faults world.old).reads }
+    ensures writes_stay { (W.faults world.new).writes ≡ (W.faults world.old).writes }
+{
+    let mut number = Buffer::new();
+    match refusal {
+        Refusal::Usage => complain_all(world, USAGE),
+        Refusal::Query {
+            refusal: QueryRefusal::Fault { fault },
+        } => complain_fault(*fault, world),
+        Refusal::BadLine { line } => {
             complain_pieces(
                 world,
-                &[BAD_LINE, number.format(*line).as_bytes(), LINE_END],
+                &[
+                    b"data refused: line ",
+                    number.format(*line).as_bytes(),
+                    LINE_END,
+                ],
             )
         }
-        Ending::TooLong { name, limit } => complain_pieces(
+        Refusal::TooLong { name, limit } => complain_pieces(
             world,
             &[
-                LIMIT,
+                b"limit: ",
                 name.as_bytes(),
-                IS_LONGER,
+                b" is longer than ",
                 number.format(*limit).as_bytes(),
-                BYTES,
+                b" bytes\n",
             ],
         ),
     }
@@ -52,20 +75,25 @@ pub(crate) fn complain_ending<W: World>(ending: &Ending<'_>, world: &mut W) -> R
 
 // Complains what is wrong with a query, and where.
 fn complain_fault<W: World>(fault: QueryFault, world: &mut W) -> Result<(), Failed>
-    ensures step { Step (W.told world.old) (W.told world.new) (AppendsAll with_complained (query_line fault) result) }
-    ensures cause { RisesOnErr (W.say_faults world.old) (W.say_faults world.new) result }
-    ensures read_faults_stay { W.read_faults world.new ≡ W.read_faults world.old }
-    ensures write_faults_stay { W.write_faults world.new ≡ W.write_faults world.old }
+    ensures step { Step (W.told world.old) (W.told world.new) (AppendsAll with_complained (fault_line fault) result) }
+    ensures cause { RisesOnErr (W.faults world.old).says (W.faults world.new).says result }
+    ensures reads_stay { (W.faults world.new).reads ≡ (W.faults world.old).reads }
+    ensures writes_stay { (W.faults world.new).writes ≡ (W.faults world.old).writes }
 {
     match fault {
-        QueryFault::Syntax { at } => complain_at(world, SYNTAX, "", at),
-        QueryFault::Unsupported { at, word } => complain_at(world, UNSUPPORTED, word.text(), at),
-        QueryFault::UnknownPrefix { at } => complain_at(world, UNKNOWN_PREFIX, "", at),
-        QueryFault::TooManyVariables { at } => complain_at(world, TOO_MANY_VARIABLES, "", at),
-        QueryFault::TooManyPatterns { at } => complain_at(world, TOO_MANY_PATTERNS, "", at),
-        QueryFault::TooManyOptionals { at } => complain_at(world, TOO_MANY_OPTIONALS, "", at),
-        QueryFault::TooManyGroups { at } => complain_at(world, TOO_MANY_GROUPS, "", at),
-        QueryFault::TooDeep { at } => complain_at(world, TOO_DEEP, "", at),
+        QueryFault::Syntax { at } => complain_at(world, b"syntax", "", at),
+        QueryFault::Unsupported { at, word } => complain_at(
+            world,
+            b"unsupported ",
+            word.text(),
+            at,
+        ),
+        QueryFault::UnknownPrefix { at } => complain_at(world, b"unknown prefix", "", at),
+        QueryFault::TooManyVariables { at } => complain_at(world, b"too many variables", "", at),
+        QueryFault::TooManyPatterns { at } => complain_at(world, b"too many patterns", "", at),
+        QueryFault::TooManyOptionals { at } => complain_at(world, b"too many optionals", "", at),
+        QueryFault::TooManyGroups { at } => complain_at(world, b"too many groups", "", at),
+        QueryFault::TooDeep { at } => complain_at(world, b"too deep", "", at),
         QueryFault::Memory => complain_all(world, OUT_OF_MEMORY),
     }
 }
@@ -74,18 +102,18 @@ fn complain_fault<W: World>(fault: QueryFault, world: &mut W) -> Result<(), Fail
 fn complain_at<W: World>(world: &mut W, cause: &[u8], word: &str, at: usize) -> Result<(), Failed>
     ensures step { Step (W.told world.old) (W.told world.new)
         (AppendsAll with_complained (refused_at cause.now word.now at) result) }
-    ensures cause { RisesOnErr (W.say_faults world.old) (W.say_faults world.new) result }
-    ensures read_faults_stay { W.read_faults world.new ≡ W.read_faults world.old }
-    ensures write_faults_stay { W.write_faults world.new ≡ W.write_faults world.old }
+    ensures cause { RisesOnErr (W.faults world.old).says (W.faults world.new).says result }
+    ensures reads_stay { (W.faults world.new).reads ≡ (W.faults world.old).reads }
+    ensures writes_stay { (W.faults world.new).writes ≡ (W.faults world.old).writes }
 {
     let mut number = Buffer::new();
     complain_pieces(
         world,
         &[
-            QUERY_REFUSED,
+            b"query refused: ",
             cause,
             word.as_bytes(),
-            AT_BYTE,
+            b" at byte ",
             number.format(at).as_bytes(),
             LINE_END,
         ],
@@ -95,9 +123,9 @@ fn complain_at<W: World>(world: &mut W, cause: &[u8], word: &str, at: usize) -> 
 fn complain_pieces<W: World>(world: &mut W, pieces: &[&[u8]]) -> Result<(), Failed>
     ensures step { Step (W.told world.old) (W.told world.new)
         (AppendsAll with_complained (flat_map (λ piece. piece.now) pieces.now) result) }
-    ensures cause { RisesOnErr (W.say_faults world.old) (W.say_faults world.new) result }
-    ensures read_faults_stay { W.read_faults world.new ≡ W.read_faults world.old }
-    ensures write_faults_stay { W.write_faults world.new ≡ W.write_faults world.old }
+    ensures cause { RisesOnErr (W.faults world.old).says (W.faults world.new).says result }
+    ensures reads_stay { (W.faults world.new).reads ≡ (W.faults world.old).reads }
+    ensures writes_stay { (W.faults world.new).writes ≡ (W.faults world.old).writes }
 {
     for piece in pieces {
         match complain_all(world, piece) {

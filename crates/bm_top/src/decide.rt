@@ -1,9 +1,10 @@
-ghost use Rattle.bm_top.specs.Verdict.{decided};
-ghost use Rattle.bm_top.specs.Decide.{IsDecided, from_data, from_query};
+ghost use Rattle.bm_top.specs.steps.VerdictOf.{decided};
+ghost use Rattle.bm_top.specs.steps.Decide.{IsDecided, from_data, from_query};
 
 use crate::answers::answers;
 use crate::data::read_data;
 use crate::graph::graph;
+use crate::refusal::QueryRefusal;
 use crate::tsv::tsv;
 use nt_read::FeedFault;
 use sparql_parse::{QueryFault, parse_query};
@@ -11,56 +12,60 @@ use std::alloc::{AllocError, Global};
 
 /// Why there is no text to print.
 #[derive(Clone, Copy, Debug)]
-pub(crate) enum Refusal {
+pub(crate) enum Undecided {
     BadLine { line: u64 },
-    BadQuery { fault: QueryFault },
+    Query { refusal: QueryRefusal },
     Memory,
 }
 
-impl From<FeedFault> for Refusal {
+impl From<FeedFault> for Undecided {
     ghost use Rattle.std.specs.Prelude.{◌≡◌};
-    ghost use Rattle.bm_top.specs.Decide.{from_data};
+    ghost use Rattle.bm_top.specs.steps.Decide.{from_data};
 
-    ghost from_gives = { λ fault refusal. refusal ≡ from_data fault };
+    ghost from_gives = { λ fault undecided. undecided ≡ from_data fault };
 
     fn from(fault: FeedFault) -> Self {
         match fault {
-            FeedFault::NotNTriples { line } => Refusal::BadLine { line },
-            FeedFault::Memory => Refusal::Memory,
+            FeedFault::NotNTriples { line } => Undecided::BadLine { line },
+            FeedFault::Memory => Undecided::Memory,
         }
     }
 }
 
-impl From<QueryFault> for Refusal {
+impl From<QueryFault> for Undecided {
     ghost use Rattle.std.specs.Prelude.{◌≡◌};
-    ghost use Rattle.bm_top.specs.Decide.{from_query};
+    ghost use Rattle.bm_top.specs.steps.Decide.{from_query};
 
-    ghost from_gives = { λ fault refusal. refusal ≡ from_query fault };
+    ghost from_gives = { λ fault undecided. undecided ≡ from_query fault };
 
     fn from(fault: QueryFault) -> Self {
         match fault {
-            QueryFault::Memory => Refusal::Memory,
-            fault => Refusal::BadQuery { fault },
+            QueryFault::Memory => Undecided::Memory,
+            fault => Undecided::Query {
+                refusal: QueryRefusal::Fault { fault },
+            },
         }
     }
 }
 
-impl From<AllocError> for Refusal {
+impl From<AllocError> for Undecided {
     ghost use Rattle.std.specs.Prelude.{◌≡◌};
-    ghost use Rattle.bm_top.specs.declared.decide.Refusal.TheVariants.{Memory};
+    ghost use Rattle.bm_top.specs.declared.decide.Undecided.TheVariants.{Memory};
 
-    ghost from_gives = { λ _ refusal. refusal ≡ Memory };
+    ghost from_gives = { λ _ undecided. undecided ≡ Memory };
 
     fn from(_: AllocError) -> Self {
-        Refusal::Memory
+        Undecided::Memory
     }
 }
 
-/// The text that answers a query over data, or why there is none: the first bad line, and then the query.
-pub(crate) fn decide(alloc: Global, data: Vec<u8>, query: &[u8]) -> Result<Vec<u8>, Refusal>
+/// The text that answers a query over data, or why there is none: the first bad line, and then the query. The data is
+/// let go once its triples are read.
+pub(crate) fn decide(alloc: Global, data: Vec<u8>, query: &[u8]) -> Result<Vec<u8>, Undecided>
     ensures { IsDecided (decided «data».items query.now) result }
 {
-    let triples = read_data(alloc, data)?;
+    let triples = read_data(alloc, &data)?;
+    drop(data);
     let query = parse_query(alloc, query)?;
     let graph = graph(alloc, triples)?;
     let answers = answers(alloc, &query, &graph)?;

@@ -10,9 +10,10 @@ mod decide;
 mod ending;
 mod graph;
 mod laws;
+mod refusal;
 mod steps;
 mod top;
 mod tsv;
 
-pub use laws::the_verdict_is_the_standards;
+pub use laws::each_command_has_one_verdict;
 pub use top::run;

@@ -1,17 +1,17 @@
 ghost use Rattle.std.specs.Prelude.{◌≡◌, ◌<◌, ◌∷◌, ◌++◌, if◌then◌else◌, All, length, IfOk, OnOk};
-ghost use Rattle.alg_model.specs.Answers.{abstract_of};
-ghost use Rattle.bm_top.specs.Tsv.{cell_text, marked_name, tsv_header, tsv_row, tsv_text};
+ghost use Rattle.alg_model.specs.Query.{abstract_of};
+ghost use Rattle.bm_top.specs.Tsv.{tab, cell_text, marked_name, tsv_header, tsv_row, tsv_text};
 
 use crate::answer_row::AnswerRow;
 use alg_model::{Names, Query, Var};
 use bm_term::Term;
 use std::alloc::{AllocError, Global};
 
-pub const QUESTION: u8 = b'?';
+const QUESTION: u8 = b'?';
 
-pub const TAB: u8 = b'\t';
+const TAB: u8 = b'\t';
 
-pub const LINE_FEED: u8 = b'\n';
+const LINE_FEED: u8 = b'\n';
 
 /// The answers of a query as tab-separated values: a header, and then a line for each row.
 pub(crate) fn tsv(
@@ -49,7 +49,7 @@ fn push_name(
     column: Var,
 ) -> Result<(), AllocError>
     requires { column.0 < length names.now }
-    ensures { OnOk result (text.new.items ≡ text.old.items ++ (if is_first then marked_name names.now column else TAB ∷ marked_name names.now column)) }
+    ensures { OnOk result (text.new.items ≡ text.old.items ++ (if is_first then marked_name names.now column else tab ∷ marked_name names.now column)) }
 {
     push_part(text, is_first, &[QUESTION])?;
     text.extend_from_slice(names.get(column.0 as usize))
@@ -66,7 +66,7 @@ fn push_row(text: &mut Vec<u8>, cells: &[Option<Term>]) -> Result<(), AllocError
 }
 
 fn push_cell(text: &mut Vec<u8>, is_first: bool, cell: &Option<Term>) -> Result<(), AllocError>
-    ensures { OnOk result (text.new.items ≡ text.old.items ++ (if is_first then cell_text cell.now else TAB ∷ cell_text cell.now)) }
+    ensures { OnOk result (text.new.items ≡ text.old.items ++ (if is_first then cell_text cell.now else tab ∷ cell_text cell.now)) }
 {
     match cell {
         Some(term) => push_part(text, is_first, term.as_ref().bytes()),
@@ -74,9 +74,9 @@ fn push_cell(text: &mut Vec<u8>, is_first: bool, cell: &Option<Term>) -> Result<
     }
 }
 
-// A part of a line, behind a tab if it is not the first.
+// A part of a line, after a tab if it is not the first.
 fn push_part(text: &mut Vec<u8>, is_first: bool, part: &[u8]) -> Result<(), AllocError>
-    ensures { OnOk result (text.new.items ≡ text.old.items ++ (if is_first then part.now else TAB ∷ part.now)) }
+    ensures { OnOk result (text.new.items ≡ text.old.items ++ (if is_first then part.now else tab ∷ part.now)) }
 {
     if !is_first {
         text.push(TAB)?;

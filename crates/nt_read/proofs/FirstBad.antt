@@ -4,12 +4,13 @@ use Rattle.std.specs.List.{concat}
 use Rattle.std.proofs.lemmas.List.{append-nil}
 use Rattle.std.proofs.lemmas.List.Elements.{All-nil, All-cons}
 use Rattle.nt_read.specs.declared.lines.FeedFault.{FeedFault}
-use Rattle.nt_read.specs.LineReading.{LineReading, bad, nothing, spelled, line_reading}
-use Rattle.nt_read.specs.Lines.{lines_of, is_bad, first_bad, first_bad_from, IsFirstBadLine}
+use Rattle.nt_read.specs.scanning.Line.{ScannedLine, bad, nothing, spelled, scan_line}
+use Rattle.nt_read.specs.scanning.Lines.{lines_of, is_bad, first_bad, first_bad_from}
+use Rattle.nt_read.specs.Lines.{IsFirstBadLine}
 use Rattle.nt_read.specs.Line.{IsBadLine}
 use Rattle.nt_read.specs.Feeding.{with_bytes}
 use Rattle.nt_read.proofs.Cuts.{AreLines-lines_of}
-use Rattle.nt_read.proofs.LineLaws.{bad_is_read, read_is_bad}
+use Rattle.nt_read.proofs.LineLaws.{bad_is_read, scanned_is_bad}
 
 -- pieces one after another are fed as one
 pub pieces_are_fed : (reader : Result (List ℕ) FeedFault) (pieces : List (List ℕ)) → fold with_bytes reader pieces ≡ with_bytes reader (concat pieces)
@@ -19,107 +20,116 @@ pieces_are_fed (Err fault) [] = refl
 pieces_are_fed (Err fault) (piece ∷ pieces) = pieces_are_fed (Err fault) pieces
 
 -- a line is bad, or it is not
-bad_tested : (reading : LineReading) → is_bad reading ≡ true → reading ≡ bad
+bad_tested : (scanned : ScannedLine) → is_bad scanned ≡ true → scanned ≡ bad
 bad_tested bad h = refl
 bad_tested nothing h = absurd (cc)
 bad_tested (spelled triple) h = absurd (cc)
 
-good_tested : (reading : LineReading) → is_bad reading ≡ false → reading ≢ bad
+-- a line that passes the test is not bad
+good_tested : (scanned : ScannedLine) → is_bad scanned ≡ false → scanned ≢ bad
 good_tested bad h = λ e. absurd (cc)
 good_tested nothing h = λ e. absurd (cc)
 good_tested (spelled triple) h = λ e. absurd (cc)
 
-not_bad : (reading : LineReading) → reading ≢ bad → is_bad reading ≡ false
+-- a line that is not bad passes it
+not_bad : (scanned : ScannedLine) → scanned ≢ bad → is_bad scanned ≡ false
 not_bad bad h = absurd (h refl)
 not_bad nothing h = refl
 not_bad (spelled triple) h = refl
 
 -- no line is bad
 abbrev pub NoneBad : List (List ℕ) → Type 0
-NoneBad lines = All (λ line. line_reading line ≢ bad) lines
+NoneBad lines = All (λ line. scan_line line ≢ bad) lines
 
+-- where no first bad line is found, none is read as bad
 none_bad : (n : ℕ) (lines : List (List ℕ)) → first_bad_from n lines ≡ None → NoneBad lines
-none_bad n [] h = All-nil (λ line. line_reading line ≢ bad)
+none_bad n [] h = All-nil (λ line. scan_line line ≢ bad)
 none_bad n (line ∷ lines) h =
-    elim (is_bad (line_reading line)) as (λ b. is_bad (line_reading line) ≡ b → (if b then Some n else first_bad_from (n + 1) lines) ≡ None → NoneBad (line ∷ lines)) [
+    elim (is_bad (scan_line line)) as (λ b. is_bad (scan_line line) ≡ b → (if b then Some n else first_bad_from (n + 1) lines) ≡ None → NoneBad (line ∷ lines)) [
       | true ↦ λ _ h. absurd (cc)
-      | false ↦ λ good h. All-cons (λ line. line_reading line ≢ bad) line lines (good_tested (line_reading line) good) (none_bad (n + 1) lines h)
+      | false ↦ λ good h. All-cons (λ line. scan_line line ≢ bad) line lines (good_tested (scan_line line) good) (none_bad (n + 1) lines h)
     ] refl h
 
+-- where none is read as bad, no first bad line is found
 none_found : (n : ℕ) (lines : List (List ℕ)) → NoneBad lines → first_bad_from n lines ≡ None
 none_found n [] h = refl
 none_found n (line ∷ lines) h =
-    let good = not_bad (line_reading line) (h 0 line (omega arith)) in
+    let good = not_bad (scan_line line) (h 0 line (omega arith)) in
     rw good (none_found (n + 1) lines (λ k d below. h (suc k) d (omega arith)))
 
 -- where none of the first lines is bad and the next one is, it is the first
-first_found : (n : ℕ) (before : List (List ℕ)) (line : List ℕ) (behind : List (List ℕ)) → NoneBad before → line_reading line ≡ bad → first_bad_from n (before ++ line ∷ behind) ≡ Some (n + length before)
-first_found n [] line behind good here = rw here (ap Some (omega arith))
-first_found n (first ∷ before) line behind good here =
-    let here_good = not_bad (line_reading first) (good 0 first (omega arith)) in
-    let later = first_found (n + 1) before line behind (λ k d below. good (suc k) d (omega arith)) here in
+first_found : (n : ℕ) (before : List (List ℕ)) (line : List ℕ) (after : List (List ℕ)) → NoneBad before → scan_line line ≡ bad → first_bad_from n (before ++ line ∷ after) ≡ Some (n + length before)
+first_found n [] line after good here = rw here (ap Some (omega arith))
+first_found n (first ∷ before) line after good here =
+    let here_good = not_bad (scan_line first) (good 0 first (omega arith)) in
+    let later = first_found (n + 1) before line after (λ k d below. good (suc k) d (omega arith)) here in
     rw here_good (later ∙ ap Some (omega arith))
 
--- the lines before a first bad one, it, and those behind it
+-- the lines before a first bad one, it, and those after it
 record Found (n : ℕ) (lines : List (List ℕ)) (number : ℕ) : Type 0 where
   before : List (List ℕ)
   line : List ℕ
-  behind : List (List ℕ)
-  cut : lines ≡ before ++ line ∷ behind
+  after : List (List ℕ)
+  cut : lines ≡ before ++ line ∷ after
   place : number ≡ n + length before
   none_before : NoneBad before
-  it_is_bad : line_reading line ≡ bad
+  it_is_bad : scan_line line ≡ bad
 
-found_later : (n : ℕ) (first : List ℕ) (lines : List (List ℕ)) (number : ℕ) → line_reading first ≢ bad → Found (n + 1) lines number → Found n (first ∷ lines) number
+-- a first bad line after one that is not bad
+found_later : (n : ℕ) (first : List ℕ) (lines : List (List ℕ)) (number : ℕ) → scan_line first ≢ bad → Found (n + 1) lines number → Found n (first ∷ lines) number
 found_later n first lines number good later = record {
   before = first ∷ later.before;
   line = later.line;
-  behind = later.behind;
+  after = later.after;
   cut = ap (λ rest. first ∷ rest) later.cut;
   place = omega (arith, later.place);
-  none_before = All-cons (λ line. line_reading line ≢ bad) first later.before good later.none_before;
+  none_before = All-cons (λ line. scan_line line ≢ bad) first later.before good later.none_before;
   it_is_bad = later.it_is_bad;
 }
 
+-- the first bad line that is found is one
 find_first : (n : ℕ) (lines : List (List ℕ)) (number : ℕ) → first_bad_from n lines ≡ Some number → Found n lines number
 find_first n [] number h = absurd (cc)
 find_first n (line ∷ lines) number h =
-    elim (is_bad (line_reading line)) as (λ b. is_bad (line_reading line) ≡ b → (if b then Some n else first_bad_from (n + 1) lines) ≡ Some number → Found n (line ∷ lines) number) [
+    elim (is_bad (scan_line line)) as (λ b. is_bad (scan_line line) ≡ b → (if b then Some n else first_bad_from (n + 1) lines) ≡ Some number → Found n (line ∷ lines) number) [
       | true ↦ λ is h. let same : n ≡ number = cc in record {
         before = [];
         line = line;
-        behind = lines;
+        after = lines;
         cut = refl;
         place = omega (arith, same);
-        none_before = All-nil (λ line. line_reading line ≢ bad);
-        it_is_bad = bad_tested (line_reading line) is;
+        none_before = All-nil (λ line. scan_line line ≢ bad);
+        it_is_bad = bad_tested (scan_line line) is;
       }
-      | false ↦ λ good h. found_later n line lines number (good_tested (line_reading line) good) (find_first (n + 1) lines number h)
+      | false ↦ λ good h. found_later n line lines number (good_tested (scan_line line) good) (find_first (n + 1) lines number h)
     ] refl h
 
 -- that no line is read as bad says that none is bad
 none_is_bad : (lines : List (List ℕ)) → NoneBad lines → All (λ line. ¬ IsBadLine line) lines
 none_is_bad lines none k line below is = none k line below (bad_is_read _ is)
 
+-- that no line is bad says that none is read as bad
 none_is_read_bad : (lines : List (List ℕ)) → All (λ line. ¬ IsBadLine line) lines → NoneBad lines
-none_is_read_bad lines none k line below e = none k line below (read_is_bad _ e)
+none_is_read_bad lines none k line below e = none k line below (scanned_is_bad _ e)
 
+-- the first bad line is found exactly where it is
 pub first_bad-found : (bytes : List ℕ) (n : ℕ) → (first_bad bytes ≡ Some n) ↔ IsFirstBadLine bytes n
 unfolding first_bad
 first_bad-found bytes n = (
   λ h. let found = find_first 1 (lines_of bytes) n h in record {
     before = found.before;
     line = found.line;
-    behind = found.behind;
-    cut = (AreLines-lines_of bytes (found.before ++ found.line ∷ found.behind)).1 (sym found.cut);
+    after = found.after;
+    cut = (AreLines-lines_of bytes (found.before ++ found.line ∷ found.after)).1 (sym found.cut);
     number = omega (arith, found.place);
     none_before = none_is_bad found.before found.none_before;
-    it_is_bad = read_is_bad found.line found.it_is_bad;
+    it_is_bad = scanned_is_bad found.line found.it_is_bad;
   },
-  λ is. let cut : is.before ++ is.line ∷ is.behind ≡ lines_of bytes = (AreLines-lines_of bytes (is.before ++ is.line ∷ is.behind)).0 is.cut in
-      rw (← cut) (first_found 1 is.before is.line is.behind (none_is_read_bad is.before is.none_before) (bad_is_read is.line is.it_is_bad) ∙ ap Some (omega (arith, is.number))),
+  λ is. let cut : is.before ++ is.line ∷ is.after ≡ lines_of bytes = (AreLines-lines_of bytes (is.before ++ is.line ∷ is.after)).0 is.cut in
+      rw (← cut) (first_found 1 is.before is.line is.after (none_is_read_bad is.before is.none_before) (bad_is_read is.line is.it_is_bad) ∙ ap Some (omega (arith, is.number))),
 )
 
+-- none is found exactly where no line is bad
 pub first_bad-none : (bytes : List ℕ) → (first_bad bytes ≡ None) ↔ All (λ line. ¬ IsBadLine line) (lines_of bytes)
 unfolding first_bad
 first_bad-none bytes = (

@@ -1,21 +1,21 @@
 -- The first line of some bytes, and those that are left.
 use Rattle.std.proofs.Common.{◌≡◌, ℕ, zero, suc, ◌<◌, ◌≤◌, true, false, ◌==◌, ◌||◌, if◌then◌else◌, List, [], ◌∷◌, length, take, drop, get_or, refl, arith}
 use Rattle.memchr.specs.Find.{is_byte2}
-use Rattle.nt_read.specs.Lines.{before_first_line, lines_behind}
+use Rattle.nt_read.specs.scanning.Lines.{before_first_line, lines_after}
 
 -- a byte that ends no line
-pub plain : (b : ℕ) (bytes : List ℕ) → (is_byte2 10 13 b ≡ true → ⊥) → lines_behind false (b ∷ bytes) ≡ before_first_line b (lines_behind false bytes)
+pub plain : (b : ℕ) (bytes : List ℕ) → (is_byte2 10 13 b ≡ true → ⊥) → lines_after false (b ∷ bytes) ≡ before_first_line b (lines_after false bytes)
 plain b bytes h =
-    elim (b == 10) as (λ lf. ((lf || b == 13) ≡ true → ⊥) → (if lf then [] ∷ lines_behind false bytes else (if b == 13 then [] ∷ lines_behind true bytes else before_first_line b (lines_behind false bytes))) ≡ before_first_line b (lines_behind false bytes)) [
+    elim (b == 10) as (λ lf. ((lf || b == 13) ≡ true → ⊥) → (if lf then [] ∷ lines_after false bytes else (if b == 13 then [] ∷ lines_after true bytes else before_first_line b (lines_after false bytes))) ≡ before_first_line b (lines_after false bytes)) [
       | true ↦ λ h. absurd (h refl)
-      | false ↦ λ h. elim (b == 13) as (λ cr. ((false || cr) ≡ true → ⊥) → (if cr then [] ∷ lines_behind true bytes else before_first_line b (lines_behind false bytes)) ≡ before_first_line b (lines_behind false bytes)) [
+      | false ↦ λ h. elim (b == 13) as (λ cr. ((false || cr) ≡ true → ⊥) → (if cr then [] ∷ lines_after true bytes else before_first_line b (lines_after false bytes)) ≡ before_first_line b (lines_after false bytes)) [
         | true ↦ λ h. absurd (h refl)
         | false ↦ λ _. refl
       ] h
     ] h
 
 -- the bytes before the first line end are the first line
-pub first_line : (bytes : List ℕ) (at : ℕ) (rest : List (List ℕ)) → ((k : ℕ) → k < at → is_byte2 10 13 (get_or bytes k 0) ≡ true → ⊥) → at ≤ length bytes → lines_behind false (drop at bytes) ≡ [] ∷ rest → lines_behind false bytes ≡ take at bytes ∷ rest
+pub first_line : (bytes : List ℕ) (at : ℕ) (rest : List (List ℕ)) → ((k : ℕ) → k < at → is_byte2 10 13 (get_or bytes k 0) ≡ true → ⊥) → at ≤ length bytes → lines_after false (drop at bytes) ≡ [] ∷ rest → lines_after false bytes ≡ take at bytes ∷ rest
 first_line bytes zero rest none within e = e
 first_line [] (suc at) rest none within e = absurd (omega arith)
 first_line (b ∷ bytes) (suc at) rest none within e =
@@ -23,16 +23,16 @@ first_line (b ∷ bytes) (suc at) rest none within e =
     rw (plain b bytes (none 0 (omega arith)), later) refl
 
 -- where there is no line end, there is one line
-pub one_line : (bytes : List ℕ) → ((k : ℕ) → k < length bytes → is_byte2 10 13 (get_or bytes k 0) ≡ true → ⊥) → lines_behind false bytes ≡ bytes ∷ []
+pub one_line : (bytes : List ℕ) → ((k : ℕ) → k < length bytes → is_byte2 10 13 (get_or bytes k 0) ≡ true → ⊥) → lines_after false bytes ≡ bytes ∷ []
 one_line [] none = refl
 one_line (b ∷ bytes) none =
     let later = one_line bytes (λ k h. none (suc k) (omega arith)) in
     rw (plain b bytes (none 0 (omega arith)), later) refl
 
--- behind a line end that is no CR
-pub behind_other : (b : ℕ) (bytes : List ℕ) → is_byte2 10 13 b ≡ true → (b == 13) ≡ false → lines_behind false (b ∷ bytes) ≡ [] ∷ lines_behind false bytes
-behind_other b bytes ends other =
-    elim (b == 10) as (λ lf. (lf || b == 13) ≡ true → (if lf then [] ∷ lines_behind false bytes else (if b == 13 then [] ∷ lines_behind true bytes else before_first_line b (lines_behind false bytes))) ≡ [] ∷ lines_behind false bytes) [
+-- after a line end that is no CR
+pub after_other : (b : ℕ) (bytes : List ℕ) → is_byte2 10 13 b ≡ true → (b == 13) ≡ false → lines_after false (b ∷ bytes) ≡ [] ∷ lines_after false bytes
+after_other b bytes ends other =
+    elim (b == 10) as (λ lf. (lf || b == 13) ≡ true → (if lf then [] ∷ lines_after false bytes else (if b == 13 then [] ∷ lines_after true bytes else before_first_line b (lines_after false bytes))) ≡ [] ∷ lines_after false bytes) [
       | true ↦ λ _. refl
       | false ↦ λ h. let lost : true ≡ false = cc in cc
     ] ends

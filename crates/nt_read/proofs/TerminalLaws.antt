@@ -1,10 +1,11 @@
--- A terminal behind white space is what is read there, from a few facts about its reading.
+-- A terminal after white space is what is read there, from a few facts about its scan.
 use Rattle.std.proofs.Common.{◌≡◌, ℕ, ◌≤◌, true, false, Option, Some, None, List, [], ◌∷◌, ◌++◌, length, refl, ap, subst, ◌∙◌, sym, arith, append_assoc, append-nil, length-append}
 use Rattle.std.proofs.lemmas.List.{nil_from_length}
 use Rattle.std.proofs.lemmas.Option.{some_pair_parts}
-use Rattle.bm_term.specs.Text.{after_run, IsLongest}
-use Rattle.bm_term.proofs.TextLemmas.{after_run-split, after_run-append, after_run-stop}
-use Rattle.nt_read.specs.Terminals.{is_blank, HasValue, Terminal}
+use Rattle.rdf_text.specs.scanning.Text.{after_run}
+use Rattle.rdf_text.specs.Text.{IsLongest, IsOf}
+use Rattle.rdf_text.proofs.TextLemmas.{after_run-split, after_run-append, after_run-stop}
+use Rattle.nt_read.specs.Terminals.{is_blank, BeginsWithTerminal}
 
 -- of two cuts of one text the later one goes on from the other
 later_cut : (a b c d : List ℕ) → a ++ b ≡ c ++ d → length d ≤ length b → (more : List ℕ) × (c ≡ a ++ more) × (b ≡ more ++ d)
@@ -15,6 +16,7 @@ later_cut (x ∷ a) b (y ∷ c) d same less =
     let (more, front, rest) = later_cut a b c d (cc) less in
     (more, ap (λ z. z ∷ c) (sym first) ∙ ap (λ xs. x ∷ xs) front, rest)
 
+-- pairs are the same where their parts are
 same_pair : {V : Type 0} (v w : V) (xs ys : List ℕ) → v ≡ w → xs ≡ ys → ◌≡◌ {A = Option (V × List ℕ)} (Some (v, xs)) (Some (w, ys))
 same_pair v w xs ys value rest = cc
 
@@ -22,14 +24,19 @@ module _ {V : Type 0} (Rule : List ℕ → V → Type 0) (read : List ℕ → Op
   -- what is read is of the rule; where a text of the rule stands in front, no less is read; a text of the rule has one
   -- value; and no text of the rule begins with white space
   pub record Reads : Type 0 where
+    -- what is taken is a text of the rule
     pub sound : (text rest : List ℕ) (v : V) → read text ≡ Some (v, rest) → (front : List ℕ) × Rule front v × (text ≡ front ++ rest)
+    -- each text of the rule in front is passed
     pub reaches : (front more : List ℕ) (v : V) → Rule front v → (w : V) × (rest : List ℕ) × (read (front ++ more) ≡ Some (w, rest)) × (length rest ≤ length more)
+    -- a text has one value
     pub one : (text : List ℕ) (v w : V) → Rule text v → Rule text w → v ≡ w
+    -- nothing is taken from nothing
     pub nil : read [] ≡ None
+    -- nothing is taken at white space
     pub blank : (c : ℕ) (cs : List ℕ) → is_blank c ≡ true → read (c ∷ cs) ≡ None
 
   -- what is read is the longest
-  longest : Reads → (text rest front : List ℕ) (v : V) → read text ≡ Some (v, rest) → Rule front v → text ≡ front ++ rest → IsLongest (HasValue Rule) front rest
+  longest : Reads → (text rest front : List ℕ) (v : V) → read text ≡ Some (v, rest) → Rule front v → text ≡ front ++ rest → IsLongest (IsOf Rule) front rest
   longest reads text rest front v e is split = record {
     is = (v, is);
     longest = λ more others more_split (w, more_is).
@@ -39,7 +46,8 @@ module _ {V : Type 0} (Rule : List ℕ → V → Type 0) (read : List ℕ → Op
         nil_from_length more (omega (arith, ap length more_split, ap length same, length-append more others));
   }
 
-  pub terminal_found : Reads → (text rest : List ℕ) (v : V) → read (after_run is_blank text) ≡ Some (v, rest) → Terminal Rule text v rest
+  -- a terminal that is read is the longest one
+  pub terminal_found : Reads → (text rest : List ℕ) (v : V) → read (after_run is_blank text) ≡ Some (v, rest) → BeginsWithTerminal Rule text v rest
   terminal_found reads text rest v e =
       let (blanks, are, blanks_split) = after_run-split is_blank text in
       let (front, is, split) = reads.sound (after_run is_blank text) rest v e in
@@ -61,7 +69,8 @@ module _ {V : Type 0} (Rule : List ℕ → V → Type 0) (read : List ℕ → Op
         | false ↦ λ f. after_run-stop is_blank c cs f
       ] refl
 
-  pub terminal_read : Reads → (text rest : List ℕ) (v : V) → Terminal Rule text v rest → read (after_run is_blank text) ≡ Some (v, rest)
+  -- the longest terminal is read
+  pub terminal_read : Reads → (text rest : List ℕ) (v : V) → BeginsWithTerminal Rule text v rest → read (after_run is_blank text) ≡ Some (v, rest)
   terminal_read reads text rest v t =
       let (w, end, found, less) = reads.reaches t.text rest v t.is in
       let start : after_run is_blank text ≡ t.text ++ rest =

@@ -4,8 +4,9 @@ use Rattle.std.specs.Prelude.{is_ok, OnOk}
 use Rattle.std.specs.Str.{encode_utf8_all}
 use Rattle.std.proofs.lemmas.Str.{encodes-chars}
 use Rattle.bm_term.specs.Canonical.{RdfTerm, canonical_text}
-use Rattle.nt_read.specs.Found.{IsRawTextOf}
+use Rattle.nt_read.specs.scanning.Found.{IsRawTextOf}
 
+-- a raw text is the canonical text of its term
 pub raw_bytes : (text : List ℕ) (term : RdfTerm) → IsRawTextOf text term → text ≡ canonical_text term
 raw_bytes text term (utf8, spelled) = sym (encodes-chars text utf8) ∙ ap encode_utf8_all spelled
 

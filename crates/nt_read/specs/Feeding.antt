@@ -1,12 +1,9 @@
 -- What a reader of lines does with the bytes that it is fed.
-use Rattle.std.specs.Prelude.{◌≡◌, ℕ, ◌-◌, false, true, List, ◌++◌, take, Option, Some, None, Result, Ok, Err}
+use Rattle.std.specs.Prelude.{◌≡◌, ℕ, ◌-◌, List, ◌++◌, take, Option, Some, None, Result, Ok, Err}
 use Rattle.bm_term.specs.Kept.{Kept, HasTaken}
 use Rattle.nt_read.specs.declared.lines.FeedFault.{FeedFault}
 use Rattle.nt_read.specs.declared.lines.FeedFault.TheVariants as faults
-use Rattle.nt_read.specs.LineReading.{LineReading}
-use Rattle.nt_read.specs.declared.line.LineFault.{LineFault}
-use Rattle.nt_read.specs.declared.line.LineFault.TheVariants as line_faults
-use Rattle.nt_read.specs.Lines.{is_bad, triples_in, lines_of, first_bad, first_bad_from, triples_of}
+use Rattle.nt_read.specs.scanning.Lines.{lines_of, first_bad, first_bad_from, triples_of}
 
 -- what a reader is seen as: the bytes that it was fed, or its fault
 abbrev pub fed : List ℕ → Option FeedFault → Result (List ℕ) FeedFault
@@ -36,9 +33,3 @@ abbrev pub TakesLines : List ℕ → Kept → Kept → Result (Unit {0}) FeedFau
 TakesLines bytes old new (Ok _) = HasTaken old new (triples_of (lines_of bytes))
 TakesLines bytes old new (Err (faults.NotNTriples line)) = HasTaken old new (triples_of (take (line - 1) (lines_of bytes)))
 TakesLines bytes old new (Err faults.Memory) = TakesFront (lines_of bytes) old new
-
--- the triple that a line spells was taken, if it spells one; else nothing
-abbrev pub TakesLine : LineReading → Kept → Kept → Result (Unit {0}) LineFault → Type 0
-TakesLine reading old new (Ok _) = (is_bad reading ≡ false) × HasTaken old new (triples_in reading)
-TakesLine reading old new (Err line_faults.Bad) = (is_bad reading ≡ true) × (new ≡ old)
-TakesLine reading old new (Err line_faults.Memory) = new ≡ old

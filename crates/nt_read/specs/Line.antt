@@ -1,25 +1,27 @@
 -- What a line of N-Triples spells: line ::= (subject predicate object '.')? comment?
--- N-Triples 1.1, section 7, with white space before, between and after the terminals; a line is without its line end.
+-- N-Triples 1.1, section 7, with white space before, between and after the terminals; a line is without its line end,
+-- and there is none in it.
 use Rattle.std.specs.Prelude.{◌≡◌, ◌≢◌, ℕ, ◌⊎◌, List, [], ◌∷◌, ◌++◌}
 use Rattle.std.specs.Str.{chars, IsUtf8}
 use Rattle.bm_term.specs.declared.triple.Triple.{Triple}
-use Rattle.bm_term.specs.Marks.{quotation_mark, full_stop, circumflex, number_sign}
+use Rattle.rdf_text.specs.Marks.{quotation_mark, full_stop, circumflex}
+use Rattle.rdf_text.specs.Comments.{IsComment}
 use Rattle.bm_term.specs.Canonical.{RdfTerm, iri, blank, plain, tagged, typed, xsd_string, canonical_text}
 use Rattle.rdf_escapes.specs.Iris.{IsIriRef}
 use Rattle.rdf_escapes.specs.Strings.{IsString}
-use Rattle.nt_read.specs.Terminals.{IsBlankNodeLabel, IsLangtag, IsMark, AreBlanks, Terminal}
+use Rattle.nt_read.specs.Terminals.{IsNtLabel, IsLowerLangtag, IsMark, AreBlanks, BeginsWithTerminal}
 
 -- subject ::= IRIREF | BLANK_NODE_LABEL
 abbrev pub IsSubject : List ℕ → RdfTerm → List ℕ → Type 0
-IsSubject whole (iri chars) rest = Terminal IsIriRef whole chars rest
-IsSubject whole (blank label) rest = Terminal IsBlankNodeLabel whole label rest
+IsSubject whole (iri chars) rest = BeginsWithTerminal IsIriRef whole chars rest
+IsSubject whole (blank label) rest = BeginsWithTerminal IsNtLabel whole label rest
 IsSubject whole (plain lexical) rest = ⊥
 IsSubject whole (tagged lexical tag) rest = ⊥
 IsSubject whole (typed lexical datatype) rest = ⊥
 
 -- predicate ::= IRIREF
 abbrev pub IsPredicate : List ℕ → RdfTerm → List ℕ → Type 0
-IsPredicate whole (iri chars) rest = Terminal IsIriRef whole chars rest
+IsPredicate whole (iri chars) rest = BeginsWithTerminal IsIriRef whole chars rest
 IsPredicate whole (blank label) rest = ⊥
 IsPredicate whole (plain lexical) rest = ⊥
 IsPredicate whole (tagged lexical tag) rest = ⊥
@@ -28,26 +30,26 @@ IsPredicate whole (typed lexical datatype) rest = ⊥
 -- STRING_LITERAL_QUOTE LANGTAG
 abbrev pub IsTagged : List ℕ → List ℕ → List ℕ → List ℕ → Type 0
 IsTagged whole lexical tag rest =
-    (after_string : List ℕ) × Terminal (IsString quotation_mark) whole lexical after_string × Terminal IsLangtag after_string tag rest
+    (after_string : List ℕ) × BeginsWithTerminal (IsString quotation_mark) whole lexical after_string × BeginsWithTerminal IsLowerLangtag after_string tag rest
 
 -- STRING_LITERAL_QUOTE '^^' IRIREF
 abbrev pub IsTyped : List ℕ → List ℕ → List ℕ → List ℕ → Type 0
 IsTyped whole lexical datatype rest =
-    (after_string after_mark : List ℕ) × Terminal (IsString quotation_mark) whole lexical after_string
-    × Terminal (IsMark (circumflex ∷ circumflex ∷ [])) after_string tt after_mark × Terminal IsIriRef after_mark datatype rest
+    (after_string after_mark : List ℕ) × BeginsWithTerminal (IsString quotation_mark) whole lexical after_string
+    × BeginsWithTerminal (IsMark (circumflex ∷ circumflex ∷ [])) after_string tt after_mark × BeginsWithTerminal IsIriRef after_mark datatype rest
 
 -- object ::= IRIREF | BLANK_NODE_LABEL | literal, where literal ::= STRING_LITERAL_QUOTE ('^^' IRIREF | LANGTAG)?
 -- A literal without tag and datatype is one of xsd:string.
 abbrev pub IsObject : List ℕ → RdfTerm → List ℕ → Type 0
-IsObject whole (iri chars) rest = Terminal IsIriRef whole chars rest
-IsObject whole (blank label) rest = Terminal IsBlankNodeLabel whole label rest
-IsObject whole (plain lexical) rest = Terminal (IsString quotation_mark) whole lexical rest ⊎ IsTyped whole lexical xsd_string rest
+IsObject whole (iri chars) rest = BeginsWithTerminal IsIriRef whole chars rest
+IsObject whole (blank label) rest = BeginsWithTerminal IsNtLabel whole label rest
+IsObject whole (plain lexical) rest = BeginsWithTerminal (IsString quotation_mark) whole lexical rest ⊎ IsTyped whole lexical xsd_string rest
 IsObject whole (tagged lexical tag) rest = IsTagged whole lexical tag rest
 IsObject whole (typed lexical datatype) rest = IsTyped whole lexical datatype rest × (datatype ≢ xsd_string)
 
--- comment?, where comment ::= '#' any characters
+-- comment?, where a comment has no line end in it
 abbrev pub IsCommentOrNothing : List ℕ → Type 0
-IsCommentOrNothing text = (text ≡ []) ⊎ ((comment : List ℕ) × (text ≡ number_sign ∷ comment))
+IsCommentOrNothing text = (text ≡ []) ⊎ IsComment text
 
 -- white space, and then a comment or nothing
 pub record IsEnd (whole : List ℕ) : Type 0 where
@@ -66,7 +68,7 @@ pub record SpellsTerms (whole : List ℕ) (subject predicate object : RdfTerm) :
   pub subject_is : IsSubject whole subject after_subject
   pub predicate_is : IsPredicate after_subject predicate after_predicate
   pub object_is : IsObject after_predicate object after_object
-  pub dot : Terminal (IsMark (full_stop ∷ [])) after_object tt after_dot
+  pub dot : BeginsWithTerminal (IsMark (full_stop ∷ [])) after_object tt after_dot
   pub end : IsEnd after_dot
 
 -- three terms as a triple: their canonical texts

@@ -1,9 +1,10 @@
-// Laws of the lines of a file, and of the pieces of a stream.
+//! Laws of the lines of a file, and of the pieces of a stream.
 ghost use Rattle.std.specs.Prelude.{◌≡◌, ◌↔◌, ℕ, List, Result, Some, None, All, fold};
 ghost use Rattle.std.specs.List.{concat};
 ghost use Rattle.bm_term.specs.declared.triple.Triple.{Triple};
 ghost use Rattle.nt_read.specs.Line.{IsBadLine};
-ghost use Rattle.nt_read.specs.Lines.{lines_of, AreLines, first_bad, IsFirstBadLine, triples_of, SpellTriples};
+ghost use Rattle.nt_read.specs.scanning.Lines.{lines_of, first_bad, triples_of};
+ghost use Rattle.nt_read.specs.Lines.{AreLines, IsFirstBadLine, SpellTriples};
 ghost use Rattle.nt_read.specs.Feeding.{with_bytes};
 ghost use Rattle.nt_read.specs.declared.lines.FeedFault.{FeedFault};
 

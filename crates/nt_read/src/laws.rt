@@ -1,9 +1,9 @@
-// Laws of what a line spells, for all lines.
+//! Laws of what a line spells, for all lines.
 ghost use Rattle.std.specs.Prelude.{◌≡◌, ◌↔◌, ℕ, List};
 ghost use Rattle.bm_term.specs.declared.triple.Triple.{Triple};
 ghost use Rattle.bm_term.specs.Triple.{IsRdfTriple};
 ghost use Rattle.nt_read.specs.Line.{Spells, SpellsNothing, IsBadLine};
-ghost use Rattle.nt_read.specs.LineReading.{bad, nothing, spelled, line_reading};
+ghost use Rattle.nt_read.specs.scanning.Line.{bad, nothing, spelled, scan_line};
 
 /// A line spells one triple at most.
 pub fn a_line_spells_one_triple()
@@ -15,11 +15,11 @@ pub fn a_triple_is_something()
     ensures { (line : List ℕ) (triple : Triple) → Spells line triple → ¬ SpellsNothing line }
 {}
 
-/// What a line is read as is what it spells.
-pub fn the_reading_is_what_is_spelled()
-    ensures triple { (line : List ℕ) (triple : Triple) → (line_reading line ≡ spelled triple) ↔ Spells line triple }
-    ensures nothing { (line : List ℕ) → (line_reading line ≡ nothing) ↔ SpellsNothing line }
-    ensures bad { (line : List ℕ) → (line_reading line ≡ bad) ↔ IsBadLine line }
+/// What is found in a line is what it spells.
+pub fn the_scan_is_what_is_spelled()
+    ensures triple { (line : List ℕ) (triple : Triple) → (scan_line line ≡ spelled triple) ↔ Spells line triple }
+    ensures nothing { (line : List ℕ) → (scan_line line ≡ nothing) ↔ SpellsNothing line }
+    ensures bad { (line : List ℕ) → (scan_line line ≡ bad) ↔ IsBadLine line }
 {}
 
 /// What is spelled is a triple of RDF.

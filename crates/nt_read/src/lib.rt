@@ -1,6 +1,6 @@
-//! The reader of N-Triples. `read_line` reads what one line spells, which may be a triple, nothing, or bad; a
-//! `Reader` reads the lines of a stream of bytes, and hands their triples to a `Taker`, one by one and in their
-//! order. The grammar is in specs/: the terminals, the line, and the lines of a file.
+//! The reader of N-Triples. `read_line` reads what one line spells, which may be a triple, nothing, or bad.
+//! `read_lines` reads the lines of a whole file and hands their triples to a `Taker`, one by one and in their
+//! order; a `Reader` does so for a stream that comes in pieces. The grammar is in specs/: the terminals, the line, and the lines of a file.
 #![tactic(auto)]
 
 mod file_laws;
@@ -20,10 +20,10 @@ pub use file_laws::{
 };
 pub use laws::{
     a_line_spells_one_triple, a_triple_is_something, spelled_triples_are_triples_of_rdf,
-    the_reading_is_what_is_spelled,
+    the_scan_is_what_is_spelled,
 };
 pub use line::{LineFault, read_line};
-pub use lines::{CARRIAGE_RETURN, FeedFault, LINE_FEED};
+pub use lines::{FeedFault, read_lines};
 pub use reader::Reader;
 
 #[cfg(test)]

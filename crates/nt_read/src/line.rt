@@ -1,10 +1,10 @@
-// The line of N-Triples.
+//! The line of N-Triples.
 ghost use Rattle.std.specs.Prelude.{IfOk, IfSome, IfNone, IsErrOf};
 ghost use Rattle.std.specs.Str.{chars};
 ghost use Rattle.bm_term.specs.declared.triple.Triple.{Triple};
 ghost use Rattle.bm_term.specs.Triple.{IsRdfTriple};
 ghost use Rattle.nt_read.specs.Line.{Spells, SpellsNothing, IsBadLine};
-ghost use Rattle.nt_read.specs.LineReading.{bad, nothing, spelled, read_chars, line_reading, IsReadAs};
+ghost use Rattle.nt_read.specs.scanning.Line.{bad, nothing, spelled, scan_chars, scan_line, AnswersLine};
 
 use crate::places::is_end;
 use crate::statement::statement;
@@ -26,22 +26,22 @@ pub enum LineFault {
 /// grammar, and bytes that are not UTF-8 are not in it.
 /// N-Triples 1.1, section 7.
 pub fn read_line(alloc: Global, line: &[u8]) -> Result<Option<Triple>, LineFault>
-    ensures reads { IsReadAs (line_reading line.now) result }
+    ensures reads { AnswersLine (scan_line line.now) result }
     // What is answered is so.
     ensures spelled { IfOk result (λ answer. IfSome answer (λ triple. Spells line.now triple)) }
     ensures nothing { IfOk result (λ answer. IfNone answer (SpellsNothing line.now)) }
     ensures bad { IsErrOf result LineFault.Bad → IsBadLine line.now }
     ensures triple { IfOk result (λ answer. IfSome answer (λ triple. IsRdfTriple triple)) }
     // What is so is answered, unless memory runs out.
-    ensures only_spelled { (triple : Triple) → Spells line.now triple → IsReadAs (spelled triple) result }
-    ensures only_nothing { SpellsNothing line.now → IsReadAs nothing result }
-    ensures only_bad { IsBadLine line.now → IsReadAs bad result }
+    ensures only_spelled { (triple : Triple) → Spells line.now triple → AnswersLine (spelled triple) result }
+    ensures only_nothing { SpellsNothing line.now → AnswersLine nothing result }
+    ensures only_bad { IsBadLine line.now → AnswersLine bad result }
 {
     read(alloc, line)
 }
 
 fn read(alloc: Global, line: &[u8]) -> Result<Option<Triple>, LineFault>
-    ensures { IsReadAs (line_reading line.now) result }
+    ensures { AnswersLine (scan_line line.now) result }
 {
     match str::from_utf8(line) {
         Ok(text) => read_text(alloc, text),
@@ -49,9 +49,9 @@ fn read(alloc: Global, line: &[u8]) -> Result<Option<Triple>, LineFault>
     }
 }
 
-// line ::= (subject predicate object '.')? comment?
+/// line ::= (subject predicate object '.')? comment?
 fn read_text(alloc: Global, text: &str) -> Result<Option<Triple>, LineFault>
-    ensures { IsReadAs (read_chars (chars text.now)) result }
+    ensures { AnswersLine (scan_chars (chars text.now)) result }
 {
     if is_end(text) {
         return Ok(None);

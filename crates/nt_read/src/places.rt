@@ -1,16 +1,16 @@
-// The places of a line: subject, predicate, object and end, each read from the front of a text.
+//! The places of a line: subject, predicate, object and end, each read from the front of a text.
 ghost use Rattle.std.specs.Prelude.{◌≡◌, IfSome};
 ghost use Rattle.std.specs.Option.{option_map};
 ghost use Rattle.std.specs.Str.{chars, IsUtf8};
 ghost use Rattle.nt_read.specs.Terminals.{is_blank};
-ghost use Rattle.nt_read.specs.Found.{lexical_of, IsStringText, IsFoundText, term_found};
-ghost use Rattle.nt_read.specs.LineReading.{after_blanks, read_iri, read_blank, read_node, read_subject, read_predicate, read_tag, read_datatype, read_tail, read_literal, read_object, is_end};
+ghost use Rattle.nt_read.specs.scanning.Found.{lexical_of, IsStringText, IsFoundText, term_found};
+ghost use Rattle.nt_read.specs.scanning.Line.{after_blanks, scan_iri, scan_blank, scan_node, scan_subject, scan_predicate, scan_tag, scan_datatype, scan_tail, scan_literal, scan_object, is_end};
 
-use crate::found::{FoundTerm, LiteralTail, Quoted};
+use crate::found::{FoundTerm, LiteralTail, FoundText};
 use crate::terminals::{blank_node_label, iri_ref, langtag, string_literal_quote};
-use bm_term::{CharClass, after_char, after_run, split_char};
+use rdf_text::{CharClass, CommentChar, after_char, after_run, is_at_end, split_char};
 
-// White space: the space and TAB.
+/// White space: the space and TAB.
 #[derive(Clone, Copy)]
 struct Blank;
 
@@ -24,33 +24,33 @@ impl CharClass for Blank {
 }
 
 /// The text after white space.
-pub fn after_blanks(text: &str) -> &str
+pub(crate) fn after_blanks(text: &str) -> &str
     ensures { chars result.now ≡ after_blanks (chars text.now) }
 {
     after_run(text, Blank)
 }
 
-#[tactic(auto, unfolding(crate::specs::Found::term_found))]
+#[tactic(auto, unfolding(crate::specs::scanning::Found::term_found))]
 fn iri(text: &str) -> Option<(FoundTerm<'_>, &str)>
-    ensures chars { option_map (λ p. (term_found p.0, chars p.1.now)) result ≡ read_iri (chars text.now) }
+    ensures chars { option_map (λ p. (term_found p.0, chars p.1.now)) result ≡ scan_iri (chars text.now) }
     ensures is { IfSome result (λ p. IsFoundText p.0 × IsUtf8 p.1.now) }
 {
     let (iri, rest) = iri_ref(text)?;
     Some((FoundTerm::Iri(iri), rest))
 }
 
-#[tactic(auto, unfolding(crate::specs::Found::term_found))]
+#[tactic(auto, unfolding(crate::specs::scanning::Found::term_found))]
 fn blank_node(text: &str) -> Option<(FoundTerm<'_>, &str)>
-    ensures chars { option_map (λ p. (term_found p.0, chars p.1.now)) result ≡ read_blank (chars text.now) }
+    ensures chars { option_map (λ p. (term_found p.0, chars p.1.now)) result ≡ scan_blank (chars text.now) }
     ensures is { IfSome result (λ p. IsFoundText p.0 × IsUtf8 p.1.now) }
 {
     let (label, rest) = blank_node_label(text)?;
     Some((FoundTerm::Blank(label), rest))
 }
 
-// IRIREF | BLANK_NODE_LABEL
+/// IRIREF | BLANK_NODE_LABEL
 fn node(text: &str) -> Option<(FoundTerm<'_>, &str)>
-    ensures chars { option_map (λ p. (term_found p.0, chars p.1.now)) result ≡ read_node (chars text.now) }
+    ensures chars { option_map (λ p. (term_found p.0, chars p.1.now)) result ≡ scan_node (chars text.now) }
     ensures is { IfSome result (λ p. IsFoundText p.0 × IsUtf8 p.1.now) }
 {
     match iri(text) {
@@ -59,40 +59,40 @@ fn node(text: &str) -> Option<(FoundTerm<'_>, &str)>
     }
 }
 
-/// subject ::= IRIREF | BLANK_NODE_LABEL, behind white space.
-#[tactic(auto, unfolding(crate::specs::LineReading::read_subject))]
-pub fn subject(text: &str) -> Option<(FoundTerm<'_>, &str)>
-    ensures chars { option_map (λ p. (term_found p.0, chars p.1.now)) result ≡ read_subject (chars text.now) }
+/// subject ::= IRIREF | BLANK_NODE_LABEL, after white space.
+#[tactic(auto, unfolding(crate::specs::scanning::Line::scan_subject))]
+pub(crate) fn subject(text: &str) -> Option<(FoundTerm<'_>, &str)>
+    ensures chars { option_map (λ p. (term_found p.0, chars p.1.now)) result ≡ scan_subject (chars text.now) }
     ensures is { IfSome result (λ p. IsFoundText p.0 × IsUtf8 p.1.now) }
 {
     node(after_blanks(text))
 }
 
-/// predicate ::= IRIREF, behind white space.
-#[tactic(auto, unfolding(crate::specs::LineReading::read_predicate))]
-pub fn predicate(text: &str) -> Option<(FoundTerm<'_>, &str)>
-    ensures chars { option_map (λ p. (term_found p.0, chars p.1.now)) result ≡ read_predicate (chars text.now) }
+/// predicate ::= IRIREF, after white space.
+#[tactic(auto, unfolding(crate::specs::scanning::Line::scan_predicate))]
+pub(crate) fn predicate(text: &str) -> Option<(FoundTerm<'_>, &str)>
+    ensures chars { option_map (λ p. (term_found p.0, chars p.1.now)) result ≡ scan_predicate (chars text.now) }
     ensures is { IfSome result (λ p. IsFoundText p.0 × IsUtf8 p.1.now) }
 {
     iri(after_blanks(text))
 }
 
-// A literal with the tag that is LANGTAG.
-#[tactic(auto, unfolding(crate::specs::LineReading::read_tag, crate::specs::Found::term_found, crate::specs::Found::literal_with))]
-fn tagged<'a>(string: Quoted<'a>, text: &'a str) -> Option<(FoundTerm<'a>, &'a str)>
+/// A literal with the tag that is LANGTAG.
+#[tactic(auto, unfolding(crate::specs::scanning::Line::scan_tag, crate::specs::scanning::Found::term_found, crate::specs::scanning::Found::literal_with))]
+fn tagged<'a>(string: FoundText<'a>, text: &'a str) -> Option<(FoundTerm<'a>, &'a str)>
     requires { IsStringText string }
-    ensures chars { option_map (λ p. (term_found p.0, chars p.1.now)) result ≡ read_tag (lexical_of string.entry) (chars text.now) }
+    ensures chars { option_map (λ p. (term_found p.0, chars p.1.now)) result ≡ scan_tag (lexical_of string.entry) (chars text.now) }
     ensures is { IfSome result (λ p. IsFoundText p.0 × IsUtf8 p.1.now) }
 {
     let (tag, rest) = langtag(text)?;
     Some((FoundTerm::Literal(string, LiteralTail::Tag(tag)), rest))
 }
 
-// A literal with the datatype that is IRIREF, behind the other circumflex.
-#[tactic(auto, unfolding(crate::specs::LineReading::read_datatype, crate::specs::Found::term_found, crate::specs::Found::literal_with))]
-fn typed<'a>(string: Quoted<'a>, text: &'a str) -> Option<(FoundTerm<'a>, &'a str)>
+/// A literal with the datatype that is IRIREF, after the other circumflex.
+#[tactic(auto, unfolding(crate::specs::scanning::Line::scan_datatype, crate::specs::scanning::Found::term_found, crate::specs::scanning::Found::literal_with))]
+fn typed<'a>(string: FoundText<'a>, text: &'a str) -> Option<(FoundTerm<'a>, &'a str)>
     requires { IsStringText string }
-    ensures chars { option_map (λ p. (term_found p.0, chars p.1.now)) result ≡ read_datatype (lexical_of string.entry) (chars text.now) }
+    ensures chars { option_map (λ p. (term_found p.0, chars p.1.now)) result ≡ scan_datatype (lexical_of string.entry) (chars text.now) }
     ensures is { IfSome result (λ p. IsFoundText p.0 × IsUtf8 p.1.now) }
 {
     let mark = after_char(text, '^')?;
@@ -103,12 +103,12 @@ fn typed<'a>(string: Quoted<'a>, text: &'a str) -> Option<(FoundTerm<'a>, &'a st
     ))
 }
 
-// ('^^' IRIREF | LANGTAG)?, behind the lexical form.
-#[tactic(auto, unfolding(crate::specs::LineReading::read_tail, crate::specs::Found::term_found, crate::specs::Found::literal_with))]
-fn literal_tail<'a>(string: Quoted<'a>, text: &'a str) -> Option<(FoundTerm<'a>, &'a str)>
+/// ('^^' IRIREF | LANGTAG)?, after the lexical form.
+#[tactic(auto, unfolding(crate::specs::scanning::Line::scan_tail, crate::specs::scanning::Found::term_found, crate::specs::scanning::Found::literal_with))]
+fn literal_tail<'a>(string: FoundText<'a>, text: &'a str) -> Option<(FoundTerm<'a>, &'a str)>
     requires { IsStringText string }
     ensures chars { option_map (λ p. (term_found p.0, chars p.1.now)) result
-        ≡ read_tail (lexical_of string.entry) (chars text.now) (after_blanks (chars text.now)) }
+        ≡ scan_tail (lexical_of string.entry) (chars text.now) (after_blanks (chars text.now)) }
     ensures is { IfSome result (λ p. IsFoundText p.0 × IsUtf8 p.1.now) }
 {
     let start = after_blanks(text);
@@ -119,20 +119,20 @@ fn literal_tail<'a>(string: Quoted<'a>, text: &'a str) -> Option<(FoundTerm<'a>,
     }
 }
 
-// literal ::= STRING_LITERAL_QUOTE ('^^' IRIREF | LANGTAG)?
-#[tactic(auto, unfolding(crate::specs::LineReading::read_literal))]
+/// literal ::= STRING_LITERAL_QUOTE ('^^' IRIREF | LANGTAG)?
+#[tactic(auto, unfolding(crate::specs::scanning::Line::scan_literal))]
 fn literal(text: &str) -> Option<(FoundTerm<'_>, &str)>
-    ensures chars { option_map (λ p. (term_found p.0, chars p.1.now)) result ≡ read_literal (chars text.now) }
+    ensures chars { option_map (λ p. (term_found p.0, chars p.1.now)) result ≡ scan_literal (chars text.now) }
     ensures is { IfSome result (λ p. IsFoundText p.0 × IsUtf8 p.1.now) }
 {
     let (string, rest) = string_literal_quote(text)?;
     literal_tail(string, rest)
 }
 
-/// object ::= IRIREF | BLANK_NODE_LABEL | literal, behind white space.
-#[tactic(auto, unfolding(crate::specs::LineReading::read_object))]
-pub fn object(text: &str) -> Option<(FoundTerm<'_>, &str)>
-    ensures chars { option_map (λ p. (term_found p.0, chars p.1.now)) result ≡ read_object (chars text.now) }
+/// object ::= IRIREF | BLANK_NODE_LABEL | literal, after white space.
+#[tactic(auto, unfolding(crate::specs::scanning::Line::scan_object))]
+pub(crate) fn object(text: &str) -> Option<(FoundTerm<'_>, &str)>
+    ensures chars { option_map (λ p. (term_found p.0, chars p.1.now)) result ≡ scan_object (chars text.now) }
     ensures is { IfSome result (λ p. IsFoundText p.0 × IsUtf8 p.1.now) }
 {
     let start = after_blanks(text);
@@ -143,12 +143,13 @@ pub fn object(text: &str) -> Option<(FoundTerm<'_>, &str)>
 }
 
 /// Whether no more than white space and a comment is left.
-#[tactic(auto, unfolding(crate::specs::LineReading::is_end))]
-pub fn is_end(text: &str) -> bool
+#[tactic(auto, unfolding(crate::specs::scanning::Line::is_end))]
+pub(crate) fn is_end(text: &str) -> bool
     ensures { result ≡ is_end (chars text.now) }
 {
     match split_char(after_blanks(text)) {
         None => true,
-        Some((c, _)) => c == '#',
+        Some(('#', rest)) => is_at_end(after_run(rest, CommentChar)),
+        Some(_) => false,
     }
 }

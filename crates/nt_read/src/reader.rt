@@ -1,4 +1,4 @@
-// A stream of bytes that comes in pieces.
+//! A stream of bytes that comes in pieces.
 ghost use Rattle.std.specs.Prelude.{◌≡◌, Ok, Err, [], OnOk, IfOk, IfErr, IsOkUnless};
 ghost use Rattle.nt_read.specs.Feeding.{with_bytes, AnswersLines, TakesLines};
 ghost use Rattle.nt_read.specs.declared.lines.FeedFault.TheVariants.{Memory};

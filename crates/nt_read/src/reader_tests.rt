@@ -3,7 +3,7 @@ use bm_term::TripleList;
 use std::alloc::Global;
 use std::test::Fail;
 
-// The bytes of a file, the number of triples that are taken from it, and its first bad line, or 0.
+/// The bytes of a file, the number of triples that are taken from it, and its first bad line, or 0.
 const FILES: [(&[u8], usize, u64); 24] = [
     (b"", 0, 0),
     (b"\n", 0, 0),
@@ -55,7 +55,7 @@ const FILES: [(&[u8], usize, u64); 24] = [
     (b"<urn:s> <urn:p> <urn:o> .\n\n\nx\ny\n", 1, 4),
 ];
 
-// Feeds two pieces, and answers how many triples were taken, and the first bad line or 0.
+/// Feeds two pieces, and answers how many triples were taken, and the first bad line or 0.
 fn read(alloc: Global, first: &[u8], second: &[u8]) -> Result<(usize, u64), FeedFault> {
     let mut reader = Reader::new(alloc);
     let mut triples = TripleList::new(alloc);

@@ -1,7 +1,7 @@
 use super::*;
 use std::test::Fail;
 
-// Lines, each with the three terms that it spells.
+/// Lines, each with the three terms that it spells.
 #[test]
 fn lines_that_spell_a_triple(rt: HostRuntime) -> Result<(), Fail> {
     for (line, subject, predicate, object) in [
@@ -162,6 +162,7 @@ fn lines_that_spell_nothing(rt: HostRuntime) {
     }
 }
 
+/// Whether `read_line` answers that the line is bad.
 fn is_bad(rt: &HostRuntime, line: &[u8]) -> bool {
     matches!(read_line(rt.alloc(), line), Err(LineFault::Bad))
 }
@@ -178,6 +179,10 @@ fn bad_lines(rt: HostRuntime) {
         "<a> <b> <c> . .",
         "<a> <b> <c> . <d>",
         "<a> <b> <c> .\n",
+        "# a\n<bad",
+        "# a\r<bad",
+        "#\n",
+        "<a> <b> <c> .# a\r\n",
         "\u{feff}<a> <b> <c> .",
         "\u{a0}<a> <b> <c> .",
         "\r",
@@ -251,7 +256,7 @@ fn bad_iris_and_labels(rt: HostRuntime) {
     }
 }
 
-// Bytes that are not UTF-8, in the triple and in a comment.
+/// Bytes that are not UTF-8, in the triple and in a comment.
 #[test]
 fn other_bytes_are_bad(rt: HostRuntime) {
     for line in [

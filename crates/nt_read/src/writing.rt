@@ -1,23 +1,24 @@
-// The canonical texts of the terms of a line.
+//! The canonical texts of the terms of a line.
 ghost use Rattle.std.specs.Prelude.{◌≡◌, ℕ, List, ◌++◌, IfOk, OnOk, string_bytes};
 ghost use Rattle.bm_term.specs.Canonical.{iri, plain, tagged, literal_of, IsTerm, canonical_text};
-ghost use Rattle.nt_read.specs.Found.{iri_of, lexical_of, tag_of, raw_length, IsIriText, IsStringText, IsTailText, IsFoundText, AreFoundTexts, AreTerms, literal_with, term_found, triple_found};
+ghost use Rattle.nt_read.specs.scanning.Found.{iri_of, lexical_of, tag_of, raw_length, IsIriText, IsStringText, IsTailText, IsFoundText, AreFoundTexts, AreTerms, literal_with, term_found, triple_found};
 
-use crate::found::{FoundTerm, FoundTriple, LiteralTail, Quoted};
-use bm_term::{Term, Triple, push_lower};
+use crate::found::{FoundTerm, FoundTriple, LiteralTail, FoundText};
+use bm_term::{Term, Triple};
+use rdf_text::push_lower;
 use rdf_escapes::{push_iri_pieces, push_string_pieces};
 use std::alloc::{AllocError, Global};
 
 const XSD_STRING: &str = "<http://www.w3.org/2001/XMLSchema#string>";
 
-// Writes an IRI with its brackets.
-fn push_iri(out: &mut String, quoted: Quoted<'_>) -> Result<(), AllocError>
+/// Writes an IRI with its brackets.
+fn push_iri(out: &mut String, quoted: FoundText<'_>) -> Result<(), AllocError>
     requires { IsIriText quoted }
     ensures { OnOk result (string_bytes out.new ≡ string_bytes out.old ++ canonical_text (iri (iri_of quoted.entry))) }
 {
     match quoted {
-        Quoted::Raw(text) => out.push_str(text),
-        Quoted::Escaped(body) => {
+        FoundText::Raw(text) => out.push_str(text),
+        FoundText::Escaped(body) => {
             out.push('<')?;
             push_iri_pieces(out, body)?;
             out.push('>')
@@ -25,14 +26,14 @@ fn push_iri(out: &mut String, quoted: Quoted<'_>) -> Result<(), AllocError>
     }
 }
 
-// Writes a string with its marks.
-fn push_string(out: &mut String, quoted: Quoted<'_>) -> Result<(), AllocError>
+/// Writes a string with its marks.
+fn push_string(out: &mut String, quoted: FoundText<'_>) -> Result<(), AllocError>
     requires { IsStringText quoted }
     ensures { OnOk result (string_bytes out.new ≡ string_bytes out.old ++ canonical_text (plain (lexical_of quoted.entry))) }
 {
     match quoted {
-        Quoted::Raw(text) => out.push_str(text),
-        Quoted::Escaped(body) => {
+        FoundText::Raw(text) => out.push_str(text),
+        FoundText::Escaped(body) => {
             out.push('"')?;
             push_string_pieces(out, '"', body)?;
             out.push('"')
@@ -46,14 +47,14 @@ fn copied(alloc: Global, text: &str) -> Result<Vec<u8>, AllocError>
     text.as_bytes().to_vec(alloc)
 }
 
-// The text of an IRI: where it is raw, a copy of the part of the line.
-fn iri_text(alloc: Global, quoted: Quoted<'_>) -> Result<Vec<u8>, AllocError>
+/// The text of an IRI: where it is raw, a copy of the part of the line.
+fn iri_text(alloc: Global, quoted: FoundText<'_>) -> Result<Vec<u8>, AllocError>
     requires { IsIriText quoted }
     ensures { IfOk result (λ text. text.items ≡ canonical_text (iri (iri_of quoted.entry))) }
 {
     match quoted {
-        Quoted::Raw(text) => copied(alloc, text),
-        Quoted::Escaped(_) => {
+        FoundText::Raw(text) => copied(alloc, text),
+        FoundText::Escaped(_) => {
             let mut out = String::new(alloc);
             push_iri(&mut out, quoted)?;
             Ok(out.into_bytes())
@@ -61,14 +62,14 @@ fn iri_text(alloc: Global, quoted: Quoted<'_>) -> Result<Vec<u8>, AllocError>
     }
 }
 
-// The text of a literal of xsd:string, likewise.
-fn string_text(alloc: Global, quoted: Quoted<'_>) -> Result<Vec<u8>, AllocError>
+/// The text of a literal of xsd:string, likewise.
+fn string_text(alloc: Global, quoted: FoundText<'_>) -> Result<Vec<u8>, AllocError>
     requires { IsStringText quoted }
     ensures { IfOk result (λ text. text.items ≡ canonical_text (plain (lexical_of quoted.entry))) }
 {
     match quoted {
-        Quoted::Raw(text) => copied(alloc, text),
-        Quoted::Escaped(_) => {
+        FoundText::Raw(text) => copied(alloc, text),
+        FoundText::Escaped(_) => {
             let mut out = String::new(alloc);
             push_string(&mut out, quoted)?;
             Ok(out.into_bytes())
@@ -76,8 +77,8 @@ fn string_text(alloc: Global, quoted: Quoted<'_>) -> Result<Vec<u8>, AllocError>
     }
 }
 
-// The text of a literal with a language tag.
-fn tagged_text(alloc: Global, string: Quoted<'_>, tag: &str) -> Result<Vec<u8>, AllocError>
+/// The text of a literal with a language tag.
+fn tagged_text(alloc: Global, string: FoundText<'_>, tag: &str) -> Result<Vec<u8>, AllocError>
     requires { IsStringText string }
     ensures { IfOk result (λ text. text.items ≡ canonical_text (tagged (lexical_of string.entry) (tag_of tag.now))) }
 {
@@ -91,20 +92,20 @@ fn tagged_text(alloc: Global, string: Quoted<'_>, tag: &str) -> Result<Vec<u8>, 
     Ok(out.into_bytes())
 }
 
-// How many bytes a raw text has.
-fn raw_len(quoted: Quoted<'_>) -> usize
+/// How many bytes a raw text has.
+fn raw_len(quoted: FoundText<'_>) -> usize
     ensures { result ≡ raw_length quoted.entry }
 {
     match quoted {
-        Quoted::Raw(text) => text.len(),
-        Quoted::Escaped(_) => 0,
+        FoundText::Raw(text) => text.len(),
+        FoundText::Escaped(_) => 0,
     }
 }
 
-// The text of a literal whose datatype has this text.
+/// The text of a literal whose datatype has this text.
 fn text_with_datatype(
     alloc: Global,
-    string: Quoted<'_>,
+    string: FoundText<'_>,
     datatype: &str,
 ) -> Result<Vec<u8>, AllocError>
     requires { IsStringText string }
@@ -126,19 +127,19 @@ fn text_with_datatype(
     Ok(out.into_bytes())
 }
 
-// The text of a literal with a datatype.
+/// The text of a literal with a datatype.
 fn typed_text(
     alloc: Global,
-    string: Quoted<'_>,
-    datatype: Quoted<'_>,
+    string: FoundText<'_>,
+    datatype: FoundText<'_>,
 ) -> Result<Vec<u8>, AllocError>
     requires string { IsStringText string }
     requires datatype { IsIriText datatype }
     ensures { IfOk result (λ text. text.items ≡ canonical_text (literal_of (lexical_of string.entry) (iri_of datatype.entry))) }
 {
     match datatype {
-        Quoted::Raw(text) => text_with_datatype(alloc, string, text),
-        Quoted::Escaped(_) => {
+        FoundText::Raw(text) => text_with_datatype(alloc, string, text),
+        FoundText::Escaped(_) => {
             let mut text = String::new(alloc);
             push_iri(&mut text, datatype)?;
             text_with_datatype(alloc, string, text.as_str())
@@ -146,10 +147,10 @@ fn typed_text(
     }
 }
 
-#[tactic(auto, unfolding(crate::specs::Found::literal_with))]
+#[tactic(auto, unfolding(crate::specs::scanning::Found::literal_with))]
 fn literal_text(
     alloc: Global,
-    string: Quoted<'_>,
+    string: FoundText<'_>,
     tail: LiteralTail<'_>,
 ) -> Result<Vec<u8>, AllocError>
     requires string { IsStringText string }
@@ -163,8 +164,8 @@ fn literal_text(
     }
 }
 
-// The canonical text of a term.
-#[tactic(auto, unfolding(crate::specs::Found::term_found))]
+/// The canonical text of a term.
+#[tactic(auto, unfolding(crate::specs::scanning::Found::term_found))]
 fn text(alloc: Global, found: FoundTerm<'_>) -> Result<Vec<u8>, AllocError>
     requires { IsFoundText found }
     ensures { IfOk result (λ text. text.items ≡ canonical_text (term_found found.entry)) }
@@ -186,7 +187,7 @@ fn term(alloc: Global, found: FoundTerm<'_>) -> Result<Term, AllocError>
 }
 
 /// The triple that `statement` found in a line. `Err` only where memory runs out.
-pub fn triple(alloc: Global, found: FoundTriple<'_>) -> Result<Triple, AllocError>
+pub(crate) fn triple(alloc: Global, found: FoundTriple<'_>) -> Result<Triple, AllocError>
     requires texts { AreFoundTexts found }
     requires terms { AreTerms found }
     ensures { IfOk result (λ triple. triple ≡ triple_found found.entry) }

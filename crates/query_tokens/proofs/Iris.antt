@@ -1,15 +1,17 @@
 -- IRIs between angle brackets: what is read is one, and each is read.
 use Rattle.std.proofs.Common.{◌≡◌, ℕ, Some, List, [], ◌∷◌, ◌++◌, refl, ap, ◌∙◌, sym, append_assoc}
-use Rattle.bm_term.proofs.TextLemmas.{after_char-some}
+use Rattle.rdf_text.proofs.TextLemmas.{after_char-some}
 use Rattle.rdf_escapes.specs.Iris.{IsIriPiece, IsIriRef}
-use Rattle.rdf_escapes.specs.Pieces.{values, after_values}
-use Rattle.rdf_escapes.specs.Reading.{iri_piece}
+use Rattle.rdf_escapes.specs.scanning.Pieces.{values, after_values}
+use Rattle.rdf_escapes.specs.scanning.Iris.{iri_piece}
 use Rattle.rdf_escapes.proofs.PieceLaws.{splits, passed_to_end}
 use Rattle.rdf_escapes.proofs.CharacterLaws.{iri_piece-passes, iri_piece-forward, iri_piece-over, iri_piece-closed}
-use Rattle.query_tokens.specs.Iriref.{IsIriref, after_iri}
+use Rattle.rdf_text.specs.Text.{IsOf}
+use Rattle.rdf_escapes.specs.Iris.{IsIriRef}
+use Rattle.query_tokens.specs.scanning.Iris.{after_iri}
 
--- what is read behind a '<' is an IRI
-pub after_iri-sound : (text rest : List ℕ) → after_iri text ≡ Some rest → (front : List ℕ) × IsIriref (60 ∷ front) × (text ≡ front ++ rest)
+-- what is read after a '<' is an IRI
+pub after_iri-sound : (text rest : List ℕ) → after_iri text ≡ Some rest → (front : List ℕ) × IsOf IsIriRef (60 ∷ front) × (text ≡ front ++ rest)
 unfolding after_iri
 after_iri-sound text rest e =
     let (body, star, split) = splits iri_piece iri_piece-forward IsIriPiece iri_piece-passes text in (

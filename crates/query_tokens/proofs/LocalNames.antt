@@ -6,14 +6,16 @@ use Rattle.std.specs.Cmp.Derive.{both_true}
 use Rattle.std.proofs.lemmas.Bool.{eqb-true, and_parts}
 use Rattle.std.proofs.lemmas.List.Folds.{list_all-append}
 use Rattle.std.proofs.lemmas.Option.{cond_some, option_and_then_some, same_Some}
-use Rattle.bm_term.specs.Classes.{is_hex, is_digit, is_pn_chars_base, is_sparql_pn_chars_u, is_pn_chars_more, is_sparql_pn_chars}
-use Rattle.bm_term.specs.Names.{is_dotted}
-use Rattle.bm_term.specs.Text.{after_run}
-use Rattle.bm_term.specs.Repetition.{Star, after_pieces}
-use Rattle.bm_term.proofs.RepetitionLemmas.{GoesForward, splits}
-use Rattle.bm_term.proofs.Longest.{Sound, Reaches}
-use Rattle.bm_term.proofs.TextLemmas.{after_run-split, after_run-append, after_run-stop}
-use Rattle.query_tokens.specs.PrefixedNames.{is_local_escape, IsLocalPiece, is_local_first, is_local_inner, IsLocalRest, IsLocal, after_one, after_two_digits, after_local_piece, is_full_stop, after_dotted_piece, after_local}
+use Rattle.rdf_text.specs.Classes.{is_hex, is_digit, is_pn_chars_base, is_sparql_pn_chars_u, is_pn_chars_more, is_sparql_pn_chars}
+use Rattle.rdf_text.specs.Names.{is_dotted}
+use Rattle.rdf_text.specs.scanning.Text.{after_run}
+use Rattle.rdf_text.specs.Repetition.{Star}
+use Rattle.rdf_text.specs.scanning.Repetition.{after_pieces}
+use Rattle.rdf_text.proofs.RepetitionLemmas.{GoesForward, splits}
+use Rattle.rdf_text.proofs.Longest.{Sound, Reaches}
+use Rattle.rdf_text.proofs.TextLemmas.{after_run-split, after_run-append, after_run-stop}
+use Rattle.query_tokens.specs.PrefixedNames.{is_local_escape, IsLocalPiece, is_local_first, is_local_inner, IsLocalRest, IsLocal}
+use Rattle.query_tokens.specs.scanning.PrefixedNames.{after_one, after_two_digits, after_local_piece, is_full_stop, after_dotted_piece, after_local}
 use Rattle.query_tokens.proofs.Walks.{Passed, IsSound, HaveLength, PassesEach, passes, forward, length-after_pieces, after_pieces-more, after_pieces-none}
 
 pub record OneMember (members : ℕ → Bool) (text rest : List ℕ) : Type 0 where
@@ -21,6 +23,7 @@ pub record OneMember (members : ℕ → Bool) (text rest : List ℕ) : Type 0 wh
   pub is : members c ≡ true
   pub split : text ≡ c ∷ rest
 
+-- what is passed is a member of the class
 after_one-some : (members : ℕ → Bool) (text rest : List ℕ) → after_one members text ≡ Some rest → OneMember members text rest
 after_one-some members [] rest e = absurd (cc)
 after_one-some members (c ∷ cs) rest e =
@@ -31,9 +34,9 @@ after_one-some members (c ∷ cs) rest e =
 digits_sound : (members : ℕ → Bool) (text rest : List ℕ) → after_two_digits text ≡ Some rest → Passed (IsLocalPiece members) (37 ∷ text) rest
 unfolding after_two_digits
 digits_sound members text rest e =
-    option_and_then_some (after_one is_hex) (after_one is_hex text) rest e (λ behind first second.
-    let a = after_one-some is_hex text behind first in
-    let b = after_one-some is_hex behind rest second in
+    option_and_then_some (after_one is_hex) (after_one is_hex text) rest e (λ after first second.
+    let a = after_one-some is_hex text after first in
+    let b = after_one-some is_hex after rest second in
     record {
       front = 37 ∷ a.c ∷ b.c ∷ [];
       value = 37 ∷ a.c ∷ b.c ∷ [];
@@ -41,6 +44,7 @@ digits_sound members text rest e =
       split = ap (λ xs. 37 ∷ xs) (a.split ∙ ap (λ xs. a.c ∷ xs) b.split);
     })
 
+-- a backslash and one of its characters are a piece
 escape_sound : (members : ℕ → Bool) (text rest : List ℕ) → after_one is_local_escape text ≡ Some rest → Passed (IsLocalPiece members) (92 ∷ text) rest
 escape_sound members text rest e =
     let one = after_one-some is_local_escape text rest e in
@@ -51,6 +55,7 @@ escape_sound members text rest e =
       split = ap (λ xs. 92 ∷ xs) one.split;
     }
 
+-- what a step takes is a piece of a local name
 local_piece-sound : (members : ℕ → Bool) → IsSound (IsLocalPiece members) (after_local_piece members)
 unfolding after_local_piece
 local_piece-sound members [] rest e = absurd (cc)
@@ -68,6 +73,7 @@ local_piece-sound members (c ∷ cs) rest e =
           ] refl h
     ] refl e
 
+-- each piece has a character
 local_piece-long : (members : ℕ → Bool) → HaveLength (IsLocalPiece members) (after_local_piece members)
 local_piece-long members front v (inl (c, is, spelled, same)) = rw spelled (omega arith)
 local_piece-long members front v (inr (inl (a, b, a_hex, b_hex, spelled, same))) = rw spelled (omega arith)
@@ -80,22 +86,27 @@ local_piece-passes members no_percent no_backslash front rest v (inl (c, is, spe
 local_piece-passes members no_percent no_backslash front rest v (inr (inl (a, b, a_hex, b_hex, spelled, same))) = rw (spelled, no_percent, a_hex, b_hex) refl
 local_piece-passes members no_percent no_backslash front rest v (inr (inr (c, is, spelled, same))) = rw (spelled, no_backslash, is) refl
 
+-- '%' begins no local name by itself
 first_no_percent : is_local_first 37 ≡ false
 unfolding is_local_first is_sparql_pn_chars_u is_pn_chars_base is_digit
 first_no_percent = refl
 
+-- nor does the backslash
 first_no_backslash : is_local_first 92 ≡ false
 unfolding is_local_first is_sparql_pn_chars_u is_pn_chars_base is_digit
 first_no_backslash = refl
 
+-- '%' is in no local name by itself
 inner_no_percent : is_local_inner 37 ≡ false
 unfolding is_local_inner is_sparql_pn_chars is_sparql_pn_chars_u is_pn_chars_base is_pn_chars_more
 inner_no_percent = refl
 
+-- nor is the backslash
 inner_no_backslash : is_local_inner 92 ≡ false
 unfolding is_local_inner is_sparql_pn_chars is_sparql_pn_chars_u is_pn_chars_base is_pn_chars_more
 inner_no_backslash = refl
 
+-- nor does '.' end one
 inner_no_full_stop : is_local_inner 46 ≡ false
 unfolding is_local_inner is_sparql_pn_chars is_sparql_pn_chars_u is_pn_chars_base is_pn_chars_more
 inner_no_full_stop = refl
@@ -108,6 +119,7 @@ pub record IsDottedPiece (text : List ℕ) (value : List ℕ) : Type 0 where
   pub is : IsLocalPiece is_local_inner piece value
   pub spelled : text ≡ dots ++ piece
 
+-- what a step over dots and a piece takes is that
 dotted_piece-sound : IsSound IsDottedPiece after_dotted_piece
 unfolding after_dotted_piece
 dotted_piece-sound text rest e =
@@ -120,16 +132,20 @@ dotted_piece-sound text rest e =
       split = text_split ∙ ap (λ xs. dots ++ xs) found.split ∙ sym (append_assoc dots found.front rest);
     }
 
+-- each has a character
 dotted_piece-long : HaveLength IsDottedPiece after_dotted_piece
 dotted_piece-long front v found =
     omega (arith, ap length found.spelled, length-append found.dots found.piece, local_piece-long is_local_inner found.piece v found.is)
 
+-- such a step goes forward
 pub dotted_piece-forward : GoesForward after_dotted_piece
 dotted_piece-forward = forward IsDottedPiece after_dotted_piece dotted_piece-sound dotted_piece-long
 
+-- after one of them the others follow
 pub dotted_pieces-more : (text rest : List ℕ) → after_dotted_piece text ≡ Some rest → after_pieces after_dotted_piece text ≡ after_pieces after_dotted_piece rest
 dotted_pieces-more = after_pieces-more after_dotted_piece dotted_piece-forward
 
+-- where none is in front, nothing is passed
 pub dotted_pieces-none : (text : List ℕ) → after_dotted_piece text ≡ None → after_pieces after_dotted_piece text ≡ text
 dotted_pieces-none = after_pieces-none after_dotted_piece dotted_piece-forward
 
@@ -147,6 +163,7 @@ inner_begins piece value rest (inl (c, is, spelled, same)) =
 inner_begins piece value rest (inr (inl (a, b, a_hex, b_hex, spelled, same))) = rw spelled (after_run-stop is_full_stop 37 (a ∷ b ∷ rest) refl)
 inner_begins piece value rest (inr (inr (c, is, spelled, same))) = rw spelled (after_run-stop is_full_stop 92 (c ∷ rest) refl)
 
+-- dots and a piece in front are passed
 dotted_step : (dots piece value rest : List ℕ) → list_all is_full_stop dots ≡ true → IsLocalPiece is_local_inner piece value → after_dotted_piece (dots ++ (piece ++ rest)) ≡ Some rest
 unfolding after_dotted_piece
 dotted_step dots piece value rest all is =
@@ -157,13 +174,16 @@ dotted_step dots piece value rest all is =
 abbrev Goes : List ℕ → List ℕ → Type 0
 Goes text more = length (after_pieces after_dotted_piece text) ≤ length more
 
+-- so with the others after them
 goes_over : (dots piece value rest more : List ℕ) → list_all is_full_stop dots ≡ true → IsLocalPiece is_local_inner piece value → Goes rest more → Goes (dots ++ (piece ++ rest)) more
 goes_over dots piece value rest more all is below =
     rw (dotted_pieces-more (dots ++ (piece ++ rest)) rest (dotted_step dots piece value rest all is)) below
 
+-- what follows them is no longer than the text
 length-after_dotted_pieces : (text : List ℕ) → length (after_pieces after_dotted_piece text) ≤ length text
 length-after_dotted_pieces = length-after_pieces IsDottedPiece after_dotted_piece dotted_piece-sound dotted_piece-long
 
+-- pieces in a row are passed
 pieces_reach : (before : List (List ℕ)) (dots middle last value more : List ℕ) → list_all is_full_stop dots ≡ true → Star (IsLocalPiece (is_dotted is_local_inner)) middle before → IsLocalPiece is_local_inner last value → Goes (dots ++ (middle ++ (last ++ more))) more
 pieces_reach [] dots middle last value more all star is =
     rw star (goes_over dots last value more more all is (length-after_dotted_pieces more))
@@ -183,11 +203,13 @@ pieces_reach (v ∷ before) dots middle last value more all (front, others, inr 
     rw (split, append_assoc front others tail)
     (goes_over dots front v (others ++ tail) more all (inr plx) (pieces_reach before [] others last value more refl star is))
 
+-- the rest of a local name is passed
 rest_reaches : (rest more : List ℕ) (values : List (List ℕ)) → IsLocalRest rest values → Goes (rest ++ more) more
 rest_reaches rest more values (inl (nothing, _)) = rw nothing (length-after_dotted_pieces more)
 rest_reaches rest more values (inr (middle, last, value, before, star, is, split, _)) =
     rw (split, append_assoc middle last more) (pieces_reach before [] middle last value more refl star is)
 
+-- each local name in front is passed
 pub after_local-reaches : Reaches IsLocal after_local
 unfolding after_local
 after_local-reaches front more (values, (first, rest, value, others, is, is_rest, split, _)) = (
@@ -207,9 +229,11 @@ star_append P (v ∷ vs) ws xs ys (front, rest, piece, star, split) stars = (
   rw split (append_assoc front rest ys),
 )
 
+-- a text is pieces in a row
 abbrev HasPieces : List ℕ → Type 0
 HasPieces text = (values : List (List ℕ)) × Star (IsLocalPiece (is_dotted is_local_inner)) text values
 
+-- dots are pieces in a row
 dots_are_pieces : (dots : List ℕ) → list_all is_full_stop dots ≡ true → HasPieces dots
 dots_are_pieces [] all = ([], refl)
 dots_are_pieces (c ∷ cs) all =
@@ -218,13 +242,16 @@ dots_are_pieces (c ∷ cs) all =
     let is : is_dotted is_local_inner c ≡ true = elim (is_local_inner c) as (λ b. (b || c == 46) ≡ true) [ true ↦ refl | false ↦ first ] in
     ((c ∷ []) ∷ values, (c ∷ [], cs, inl (c, is, refl, refl), star, refl))
 
+-- a piece that may end a name may be inside
 wider : (piece value : List ℕ) → IsLocalPiece is_local_inner piece value → IsLocalPiece (is_dotted is_local_inner) piece value
 wider piece value (inl (c, is, spelled, same)) = inl (c, rw is refl, spelled, same)
 wider piece value (inr plx) = inr plx
 
+-- a text is the rest of a local name
 abbrev IsSomeRest : List ℕ → Type 0
 IsSomeRest text = (values : List (List ℕ)) × IsLocalRest text values
 
+-- dots and a piece more
 rest_more : (text others value : List ℕ) → IsDottedPiece text value → IsSomeRest others → IsSomeRest (text ++ others)
 rest_more text others value found (values, inl (nothing, none)) =
     let (dots, star) = dots_are_pieces found.dots found.are_dots in
@@ -238,20 +265,22 @@ rest_more text others value found (values, inr (middle, last, end, before, star,
       inr (found.dots ++ (found.piece ++ middle), last, end, dots ++ value ∷ before, star_append P dots (value ∷ before) found.dots (found.piece ++ middle) dots_star piece_star, is, whole, refl),
     )
 
+-- dots and pieces in a row are the rest of a local name
 rest_of : (vs : List (List ℕ)) (text : List ℕ) → Star IsDottedPiece text vs → IsSomeRest text
 rest_of [] text star = ([], inl (star, refl))
 rest_of (v ∷ vs) text (front, others, piece, star, split) = rw split (rest_more front others v piece (rest_of vs others star))
 
+-- what is passed is a local name
 pub after_local-sound : Sound IsLocal after_local
 unfolding after_local
 after_local-sound text rest e =
     elim (after_local_piece is_local_first text) as (λ r. after_local_piece is_local_first text ≡ r → option_map (after_pieces after_dotted_piece) r ≡ Some rest → (front : List ℕ) × IsLocal front × (text ≡ front ++ rest)) [
       | None ↦ λ found h. absurd (cc)
-      | Some behind ↦ λ found h.
-          let first = local_piece-sound is_local_first text behind found in
-          let (front, vs, star, split) = splits IsDottedPiece after_dotted_piece (passes IsDottedPiece after_dotted_piece dotted_piece-sound) dotted_piece-forward behind in
+      | Some after ↦ λ found h.
+          let first = local_piece-sound is_local_first text after found in
+          let (front, vs, star, split) = splits IsDottedPiece after_dotted_piece (passes IsDottedPiece after_dotted_piece dotted_piece-sound) dotted_piece-forward after in
           let (values, is_rest) = rest_of vs front star in
-          let end = same_Some (after_pieces after_dotted_piece behind) rest h in (
+          let end = same_Some (after_pieces after_dotted_piece after) rest h in (
             first.front ++ front,
             (first.value ∷ values, (first.front, front, first.value, values, first.piece, is_rest, refl, refl)),
             first.split ∙ ap (λ xs. first.front ++ xs) (split ∙ ap (λ xs. front ++ xs) end) ∙ sym (append_assoc first.front front rest),

@@ -5,15 +5,18 @@ use Rattle.std.specs.Option.{option_map, option_map_or}
 use Rattle.std.proofs.lemmas.Bool.{eqb-true, and_parts}
 use Rattle.std.proofs.lemmas.Bool.Decides.{nat_tests}
 use Rattle.std.proofs.lemmas.Option.{same_Some}
-use Rattle.bm_term.specs.Classes.{is_digit}
-use Rattle.bm_term.specs.Text.{after_char, after_run, after_some, IsRun}
-use Rattle.bm_term.proofs.TextLemmas.{after_run-split, after_run-append, after_run-stop, length-after_run, after_char-some, after_some-some, after_some-append}
+use Rattle.rdf_text.specs.Classes.{is_digit}
+use Rattle.rdf_text.specs.scanning.Text.{after_char, after_run, after_some}
+use Rattle.rdf_text.specs.Text.{IsRun}
+use Rattle.rdf_text.proofs.TextLemmas.{after_run-split, after_run-append, after_run-stop, length-after_run, after_char-some, after_some-some, after_some-append}
 use Rattle.query_tokens.specs.declared.token.TokenKind.{TokenKind}
 use Rattle.query_tokens.specs.declared.token.TokenKind.TheVariants.{Integer, Decimal, Double}
-use Rattle.query_tokens.specs.Marks.{is_number_sign}
-use Rattle.query_tokens.specs.Numbers.{IsSigned, IsDigits, IsFraction, is_exponent_mark, IsExponent, IsWholeAndPoint, IsPointAndDigits, IsScientific, after_sign, after_exponent, ReadNumber, with_exponent, read_fraction, read_after_point, read_after_digits, read_number}
+use Rattle.query_tokens.specs.Numbers.{is_number_sign, IsSigned, IsDigits, IsFraction, is_exponent_mark, IsExponent, IsWholeAndPoint, IsPointAndDigits, IsScientific}
+use Rattle.query_tokens.specs.scanning.Numbers.{after_sign, after_exponent, with_exponent, scan_fraction, scan_after_point, scan_after_digits, scan_number}
+use Rattle.query_tokens.specs.scanning.ScannedToken.{ScannedToken}
 use Rattle.query_tokens.proofs.Reached.{Takes, Reached, reached_as, reached_past}
 
+-- a digit is no sign
 no_sign_digit : (d : ℕ) → is_digit d ≡ true → is_number_sign d ≡ false
 unfolding is_digit
 no_sign_digit d is = grind (arith, nat_tests)
@@ -23,9 +26,11 @@ no_digit_exponent : (c : ℕ) → is_exponent_mark c ≡ true → is_digit c ≡
 unfolding is_digit
 no_digit_exponent c is = grind (arith, nat_tests)
 
+-- the mark of an exponent is no point
 no_stop_exponent : (c : ℕ) → is_exponent_mark c ≡ true → (c == 46) ≡ false
 no_stop_exponent c is = grind (arith, nat_tests)
 
+-- the point is no digit
 no_digit_stop : is_digit 46 ≡ false
 unfolding is_digit
 no_digit_stop = refl
@@ -37,7 +42,7 @@ after_sign-digits (d ∷ ds) rest (long, all) =
     let (first, others) = and_parts (is_digit d) (list_all is_digit ds) all in
     rw (no_sign_digit d first) refl
 
--- what stands behind the mark of an exponent
+-- what stands after the mark of an exponent
 after_signed_digits-sound : (text rest : List ℕ) → after_some is_digit (after_sign text) ≡ Some rest → (front : List ℕ) × IsSigned IsDigits front × (text ≡ front ++ rest) × (length rest < length text)
 after_signed_digits-sound [] rest e = absurd (cc)
 after_signed_digits-sound (c ∷ cs) rest e =
@@ -56,6 +61,7 @@ pub record ReadsExponent (text rest : List ℕ) : Type 0 where
   pub split : text ≡ front ++ rest
   pub shorter : length rest < length text
 
+-- what is passed is an exponent
 after_exponent-sound : (text rest : List ℕ) → after_exponent text ≡ Some rest → ReadsExponent text rest
 unfolding after_exponent
 after_exponent-sound [] rest e = absurd (cc)
@@ -67,7 +73,7 @@ after_exponent-sound (c ∷ cs) rest e =
       | false ↦ λ mark h. absurd (cc)
     ] refl e
 
--- an exponent is read at least to its end, and neither its mark nor the text behind is read otherwise
+-- an exponent is read at least to its end, and neither its mark nor the text after is read otherwise
 pub record ReachesExponent (text more : List ℕ) : Type 0 where
   pub rest : List ℕ
   pub read : after_exponent text ≡ Some rest
@@ -75,6 +81,7 @@ pub record ReachesExponent (text more : List ℕ) : Type 0 where
   pub no_digit : after_run is_digit text ≡ text
   pub no_stop : after_char 46 text ≡ None
 
+-- an exponent after its mark is passed
 exponent_reached : (mark : ℕ) (digits more : List ℕ) → is_exponent_mark mark ≡ true → IsSigned IsDigits digits → ReachesExponent (mark ∷ (digits ++ more)) more
 unfolding after_exponent
 exponent_reached mark digits more is (inl run) = record {
@@ -92,6 +99,7 @@ exponent_reached mark digits more is (inr (sign, run, is_sign, is_run, spelled))
   no_stop = rw (no_stop_exponent mark is) refl;
 }
 
+-- each exponent in front is passed
 exponent-reaches : (exponent more : List ℕ) → IsExponent exponent → ReachesExponent (exponent ++ more) more
 exponent-reaches exponent more (mark, digits, is, signed, spelled) = rw spelled (exponent_reached mark digits more is signed)
 
@@ -100,6 +108,7 @@ abbrev pub IsUnsigned : TokenKind → List ℕ → Type 0
 IsUnsigned kind text =
     ((kind ≡ Integer) × IsDigits text) ⊎ (((kind ≡ Decimal) × IsFraction text) ⊎ ((kind ≡ Double) × IsScientific text))
 
+-- what may be before an exponent
 abbrev IsMantissa : List ℕ → Type 0
 IsMantissa number = IsWholeAndPoint number ⊎ (IsPointAndDigits number ⊎ IsDigits number)
 
@@ -117,12 +126,13 @@ with_exponent-takes kind number text is mantissa =
           }
     ] refl
 
-after_point-decimal : (whole behind : List ℕ) → IsDigits whole → Takes IsUnsigned (whole ++ 46 ∷ behind) (option_map_or (λ rest. (Decimal, rest)) (after_some is_digit behind) (Integer, 46 ∷ behind))
-after_point-decimal whole behind (long, all) =
-    elim (after_some is_digit behind) as (λ r. after_some is_digit behind ≡ r → Takes IsUnsigned (whole ++ 46 ∷ behind) (option_map_or (λ rest. (Decimal, rest)) r (Integer, 46 ∷ behind))) [
+-- digits after a point make a decimal
+after_point-decimal : (whole after : List ℕ) → IsDigits whole → Takes IsUnsigned (whole ++ 46 ∷ after) (option_map_or (λ rest. (Decimal, rest)) (after_some is_digit after) (Integer, 46 ∷ after))
+after_point-decimal whole after (long, all) =
+    elim (after_some is_digit after) as (λ r. after_some is_digit after ≡ r → Takes IsUnsigned (whole ++ 46 ∷ after) (option_map_or (λ rest. (Decimal, rest)) r (Integer, 46 ∷ after))) [
       | None ↦ λ e. record { front = whole; is = inl (refl, (long, all)); split = refl }
       | Some rest ↦ λ e.
-          let (run, is_run, split, stuck) = after_some-some is_digit behind rest e in
+          let (run, is_run, split, stuck) = after_some-some is_digit after rest e in
           record {
             front = whole ++ 46 ∷ run;
             is = inr (inl (refl, (whole, run, all, is_run, refl)));
@@ -130,16 +140,18 @@ after_point-decimal whole behind (long, all) =
           }
     ] refl
 
+-- the parts of a double
 regrouped : (whole run exponent rest : List ℕ) → whole ++ 46 ∷ (run ++ (exponent ++ rest)) ≡ ((whole ++ 46 ∷ run) ++ exponent) ++ rest
 regrouped whole run exponent rest = simp append_assoc
 
-read_after_point-takes : (whole behind : List ℕ) → IsDigits whole → Takes IsUnsigned (whole ++ 46 ∷ behind) (read_after_point (46 ∷ behind) behind)
-unfolding read_after_point
-read_after_point-takes whole behind is =
-    let end = after_run is_digit behind in
-    let (run, all, run_split) = after_run-split is_digit behind in
-    elim (after_exponent end) as (λ r. after_exponent end ≡ r → Takes IsUnsigned (whole ++ 46 ∷ behind) (option_map_or (λ rest. (Double, rest)) r (option_map_or (λ rest. (Decimal, rest)) (after_some is_digit behind) (Integer, 46 ∷ behind)))) [
-      | None ↦ λ e. after_point-decimal whole behind is
+-- what is taken from a point on is a number
+scan_after_point-takes : (whole after : List ℕ) → IsDigits whole → Takes IsUnsigned (whole ++ 46 ∷ after) (scan_after_point (46 ∷ after) after)
+unfolding scan_after_point
+scan_after_point-takes whole after is =
+    let end = after_run is_digit after in
+    let (run, all, run_split) = after_run-split is_digit after in
+    elim (after_exponent end) as (λ r. after_exponent end ≡ r → Takes IsUnsigned (whole ++ 46 ∷ after) (option_map_or (λ rest. (Double, rest)) r (option_map_or (λ rest. (Decimal, rest)) (after_some is_digit after) (Integer, 46 ∷ after)))) [
+      | None ↦ λ e. after_point-decimal whole after is
       | Some rest ↦ λ e.
           let exponent = after_exponent-sound end rest e in
           record {
@@ -149,19 +161,21 @@ read_after_point-takes whole behind is =
           }
     ] refl
 
-read_after_digits-takes : (whole text : List ℕ) → IsDigits whole → Takes IsUnsigned (whole ++ text) (read_after_digits text)
-unfolding read_after_digits
-read_after_digits-takes whole text is =
-    elim (after_char 46 text) as (λ r. after_char 46 text ≡ r → Takes IsUnsigned (whole ++ text) (option_map_or (read_after_point text) r (with_exponent Integer text))) [
+-- what is taken after digits is a number
+scan_after_digits-takes : (whole text : List ℕ) → IsDigits whole → Takes IsUnsigned (whole ++ text) (scan_after_digits text)
+unfolding scan_after_digits
+scan_after_digits-takes whole text is =
+    elim (after_char 46 text) as (λ r. after_char 46 text ≡ r → Takes IsUnsigned (whole ++ text) (option_map_or (scan_after_point text) r (with_exponent Integer text))) [
       | None ↦ λ e. with_exponent-takes Integer whole text (inl (refl, is)) (inr (inr is))
-      | Some behind ↦ λ e.
-          let split = after_char-some 46 text behind e in
-          rw split (read_after_point-takes whole behind is)
+      | Some after ↦ λ e.
+          let split = after_char-some 46 text after e in
+          rw split (scan_after_point-takes whole after is)
     ] refl
 
-pub read_fraction-takes : (text : List ℕ) (found : ReadNumber) → read_fraction text ≡ Some found → Takes IsUnsigned (46 ∷ text) found
-unfolding read_fraction
-read_fraction-takes text found e =
+-- what is taken after a point is a number
+pub scan_fraction-takes : (text : List ℕ) (found : ScannedToken) → scan_fraction text ≡ Some found → Takes IsUnsigned (46 ∷ text) found
+unfolding scan_fraction
+scan_fraction-takes text found e =
     elim (after_some is_digit text) as (λ r. after_some is_digit text ≡ r → option_map (with_exponent Decimal) r ≡ Some found → Takes IsUnsigned (46 ∷ text) found) [
       | None ↦ λ read h. absurd (cc)
       | Some rest ↦ λ read h.
@@ -171,20 +185,21 @@ read_fraction-takes text found e =
           subst (Takes IsUnsigned (46 ∷ text)) same (subst (λ xs. Takes IsUnsigned (46 ∷ xs) (with_exponent Decimal rest)) (sym split) taken)
     ] refl e
 
-pub read_number-takes : (text : List ℕ) (found : ReadNumber) → read_number text ≡ Some found → Takes IsUnsigned text found
-unfolding read_number
-read_number-takes [] found e = absurd (cc)
-read_number-takes (c ∷ cs) found e =
-    elim (is_digit c) as (λ v. is_digit c ≡ v → (if v then Some (read_after_digits (after_run is_digit cs)) else (if c == 46 then read_fraction cs else None)) ≡ Some found → Takes IsUnsigned (c ∷ cs) found) [
+-- what is taken is a number
+pub scan_number-takes : (text : List ℕ) (found : ScannedToken) → scan_number text ≡ Some found → Takes IsUnsigned text found
+unfolding scan_number
+scan_number-takes [] found e = absurd (cc)
+scan_number-takes (c ∷ cs) found e =
+    elim (is_digit c) as (λ v. is_digit c ≡ v → (if v then Some (scan_after_digits (after_run is_digit cs)) else (if c == 46 then scan_fraction cs else None)) ≡ Some found → Takes IsUnsigned (c ∷ cs) found) [
       | true ↦ λ is h.
           let (run, all, split) = after_run-split is_digit cs in
-          let same = same_Some (read_after_digits (after_run is_digit cs)) found h in
+          let same = same_Some (scan_after_digits (after_run is_digit cs)) found h in
           let digits : IsDigits (c ∷ run) = (omega arith, rw is all) in
-          let taken = read_after_digits-takes (c ∷ run) (after_run is_digit cs) digits in
-          subst (Takes IsUnsigned (c ∷ cs)) same (subst (λ xs. Takes IsUnsigned (c ∷ xs) (read_after_digits (after_run is_digit cs))) (sym split) taken)
+          let taken = scan_after_digits-takes (c ∷ run) (after_run is_digit cs) digits in
+          subst (Takes IsUnsigned (c ∷ cs)) same (subst (λ xs. Takes IsUnsigned (c ∷ xs) (scan_after_digits (after_run is_digit cs))) (sym split) taken)
       | false ↦ λ is h.
-          elim (c == 46) as (λ v. (c == 46) ≡ v → (if v then read_fraction cs else None) ≡ Some found → Takes IsUnsigned (c ∷ cs) found) [
-            | true ↦ λ stop k. subst (λ x. Takes IsUnsigned (x ∷ cs) found) (sym (eqb-true c 46 stop)) (read_fraction-takes cs found k)
+          elim (c == 46) as (λ v. (c == 46) ≡ v → (if v then scan_fraction cs else None) ≡ Some found → Takes IsUnsigned (c ∷ cs) found) [
+            | true ↦ λ stop k. subst (λ x. Takes IsUnsigned (x ∷ cs) found) (sym (eqb-true c 46 stop)) (scan_fraction-takes cs found k)
             | false ↦ λ stop k. absurd (cc)
           ] refl h
     ] refl e
@@ -197,102 +212,111 @@ with_exponent-reaches kind text more less =
       | Some rest ↦ λ e. reached_past Double kind more rest (Some (Double, rest)) refl (omega (arith, (after_exponent-sound text rest e).shorter))
     ] refl
 
-decimal-reaches : (text behind more : List ℕ) → text ≡ 46 ∷ behind → length text ≤ length more → Reached (Some (option_map_or (λ rest. (Decimal, rest)) (after_some is_digit behind) (Integer, text))) Integer more
-decimal-reaches text behind more spelled less =
-    elim (after_some is_digit behind) as (λ r. after_some is_digit behind ≡ r → Reached (Some (option_map_or (λ rest. (Decimal, rest)) r (Integer, text))) Integer more) [
+-- no less than the point is passed, where digits follow it
+decimal-reaches : (text after more : List ℕ) → text ≡ 46 ∷ after → length text ≤ length more → Reached (Some (option_map_or (λ rest. (Decimal, rest)) (after_some is_digit after) (Integer, text))) Integer more
+decimal-reaches text after more spelled less =
+    elim (after_some is_digit after) as (λ r. after_some is_digit after ≡ r → Reached (Some (option_map_or (λ rest. (Decimal, rest)) r (Integer, text))) Integer more) [
       | None ↦ λ e. reached_as Integer more text (Some (Integer, text)) refl less
       | Some rest ↦ λ e.
-          let (run, is_run, split, stuck) = after_some-some is_digit behind rest e in
+          let (run, is_run, split, stuck) = after_some-some is_digit after rest e in
           reached_past Decimal Integer more rest (Some (Decimal, rest)) refl (omega (arith, ap length spelled, ap length split, length-append run rest))
     ] refl
 
-after_point-reaches : (text behind more : List ℕ) → text ≡ 46 ∷ behind → length text ≤ length more → Reached (Some (read_after_point text behind)) Integer more
-unfolding read_after_point
-after_point-reaches text behind more spelled less =
-    let end = after_run is_digit behind in
-    elim (after_exponent end) as (λ r. after_exponent end ≡ r → Reached (Some (option_map_or (λ rest. (Double, rest)) r (option_map_or (λ rest. (Decimal, rest)) (after_some is_digit behind) (Integer, text)))) Integer more) [
-      | None ↦ λ e. decimal-reaches text behind more spelled less
+-- so where an exponent may follow
+after_point-reaches : (text after more : List ℕ) → text ≡ 46 ∷ after → length text ≤ length more → Reached (Some (scan_after_point text after)) Integer more
+unfolding scan_after_point
+after_point-reaches text after more spelled less =
+    let end = after_run is_digit after in
+    elim (after_exponent end) as (λ r. after_exponent end ≡ r → Reached (Some (option_map_or (λ rest. (Double, rest)) r (option_map_or (λ rest. (Decimal, rest)) (after_some is_digit after) (Integer, text)))) Integer more) [
+      | None ↦ λ e. decimal-reaches text after more spelled less
       | Some rest ↦ λ e.
           reached_past Double Integer more rest (Some (Double, rest)) refl
-          (omega (arith, ap length spelled, length-after_run is_digit behind, (after_exponent-sound end rest e).shorter))
+          (omega (arith, ap length spelled, length-after_run is_digit after, (after_exponent-sound end rest e).shorter))
     ] refl
 
-after_digits-reaches : (text more : List ℕ) → length text ≤ length more → Reached (Some (read_after_digits text)) Integer more
-unfolding read_after_digits
+-- so where digits are before
+after_digits-reaches : (text more : List ℕ) → length text ≤ length more → Reached (Some (scan_after_digits text)) Integer more
+unfolding scan_after_digits
 after_digits-reaches text more less =
-    elim (after_char 46 text) as (λ r. after_char 46 text ≡ r → Reached (Some (option_map_or (read_after_point text) r (with_exponent Integer text))) Integer more) [
+    elim (after_char 46 text) as (λ r. after_char 46 text ≡ r → Reached (Some (option_map_or (scan_after_point text) r (with_exponent Integer text))) Integer more) [
       | None ↦ λ e. with_exponent-reaches Integer text more less
-      | Some behind ↦ λ e. after_point-reaches text behind more (after_char-some 46 text behind e) less
+      | Some after ↦ λ e. after_point-reaches text after more (after_char-some 46 text after e) less
     ] refl
 
 -- a run of digits is read, and then what follows it
-read_number-digits : (digits rest : List ℕ) → IsDigits digits → read_number (digits ++ rest) ≡ Some (read_after_digits (after_run is_digit rest))
-unfolding read_number
-read_number-digits [] rest (long, all) = absurd (omega arith)
-read_number-digits (d ∷ ds) rest (long, all) =
+scan_number-digits : (digits rest : List ℕ) → IsDigits digits → scan_number (digits ++ rest) ≡ Some (scan_after_digits (after_run is_digit rest))
+unfolding scan_number
+scan_number-digits [] rest (long, all) = absurd (omega arith)
+scan_number-digits (d ∷ ds) rest (long, all) =
     let (first, others) = and_parts (is_digit d) (list_all is_digit ds) all in
     rw (first, after_run-append is_digit ds rest others) refl
 
-integer-reaches : (digits more : List ℕ) → IsDigits digits → Reached (read_number (digits ++ more)) Integer more
+-- each integer in front is passed
+integer-reaches : (digits more : List ℕ) → IsDigits digits → Reached (scan_number (digits ++ more)) Integer more
 integer-reaches digits more is =
-    rw (read_number-digits digits more is) (after_digits-reaches (after_run is_digit more) more (length-after_run is_digit more))
+    rw (scan_number-digits digits more is) (after_digits-reaches (after_run is_digit more) more (length-after_run is_digit more))
 
-read_number-stop : (rest : List ℕ) → read_number (46 ∷ rest) ≡ read_fraction rest
-unfolding read_number
-read_number-stop rest = rw no_digit_stop refl
+-- a number may begin with its point
+scan_number-stop : (rest : List ℕ) → scan_number (46 ∷ rest) ≡ scan_fraction rest
+unfolding scan_number
+scan_number-stop rest = rw no_digit_stop refl
 
-fraction-reaches : (digits more : List ℕ) → IsDigits digits → Reached (read_number (46 ∷ (digits ++ more))) Decimal more
-unfolding read_fraction
+-- a point and digits in front are passed
+fraction-reaches : (digits more : List ℕ) → IsDigits digits → Reached (scan_number (46 ∷ (digits ++ more))) Decimal more
+unfolding scan_fraction
 fraction-reaches digits more is =
-    rw (read_number-stop (digits ++ more), after_some-append is_digit digits more is) (with_exponent-reaches Decimal (after_run is_digit more) more (length-after_run is_digit more))
+    rw (scan_number-stop (digits ++ more), after_some-append is_digit digits more is) (with_exponent-reaches Decimal (after_run is_digit more) more (length-after_run is_digit more))
 
 -- digits, and then a '.'
-read_number-point : (whole rest : List ℕ) → IsDigits whole → read_number (whole ++ 46 ∷ rest) ≡ Some (read_after_point (46 ∷ rest) rest)
-unfolding read_after_digits
-read_number-point whole rest is = rw (read_number-digits whole (46 ∷ rest) is, after_run-stop is_digit 46 rest no_digit_stop) refl
+scan_number-point : (whole rest : List ℕ) → IsDigits whole → scan_number (whole ++ 46 ∷ rest) ≡ Some (scan_after_point (46 ∷ rest) rest)
+unfolding scan_after_digits
+scan_number-point whole rest is = rw (scan_number-digits whole (46 ∷ rest) is, after_run-stop is_digit 46 rest no_digit_stop) refl
 
-point-reaches : (whole digits more : List ℕ) → IsDigits whole → IsDigits digits → Reached (read_number (whole ++ 46 ∷ (digits ++ more))) Decimal more
-unfolding read_after_point
+-- digits, a point and digits in front are passed
+point-reaches : (whole digits more : List ℕ) → IsDigits whole → IsDigits digits → Reached (scan_number (whole ++ 46 ∷ (digits ++ more))) Decimal more
+unfolding scan_after_point
 point-reaches whole digits more is (long, all) =
     let end = after_run is_digit more in
     let ended : after_run is_digit (digits ++ more) ≡ end = after_run-append is_digit digits more all in
-    rw (read_number-point whole (digits ++ more) is, ended, after_some-append is_digit digits more (long, all))
+    rw (scan_number-point whole (digits ++ more) is, ended, after_some-append is_digit digits more (long, all))
     (elim (after_exponent end) as (λ r. after_exponent end ≡ r → Reached (Some (option_map_or (λ rest. (Double, rest)) r (Decimal, end))) Decimal more) [
       | None ↦ λ e. reached_as Decimal more end (Some (Decimal, end)) refl (length-after_run is_digit more)
       | Some rest ↦ λ e.
           reached_past Double Decimal more rest (Some (Double, rest)) refl (omega (arith, length-after_run is_digit more, (after_exponent-sound end rest e).shorter))
     ] refl)
 
-decimal_text-reaches : (text more : List ℕ) → IsFraction text → Reached (read_number (text ++ more)) Decimal more
+-- each decimal in front is passed
+decimal_text-reaches : (text more : List ℕ) → IsFraction text → Reached (scan_number (text ++ more)) Decimal more
 decimal_text-reaches text more ([], digits, all, is, spelled) = rw spelled (fraction-reaches digits more is)
 decimal_text-reaches text more (d ∷ ds, digits, all, is, spelled) =
     let whole : IsDigits (d ∷ ds) = (omega arith, all) in
     rw (spelled, append_assoc (d ∷ ds) (46 ∷ digits) more) (point-reaches (d ∷ ds) digits more whole is)
 
 -- the forms of a double, in front of an exponent
-scientific-reaches : (number exponent more : List ℕ) → IsMantissa number → IsExponent exponent → Reached (read_number (number ++ (exponent ++ more))) Double more
-unfolding read_after_point read_fraction read_after_digits
+scientific-reaches : (number exponent more : List ℕ) → IsMantissa number → IsExponent exponent → Reached (scan_number (number ++ (exponent ++ more))) Double more
+unfolding scan_after_point scan_fraction scan_after_digits
 scientific-reaches number exponent more (inl (whole, digits, is, all, spelled)) is_exponent =
     let tail = exponent ++ more in
     let end = exponent-reaches exponent more is_exponent in
     let ended : after_run is_digit (digits ++ tail) ≡ tail = after_run-append is_digit digits tail all ∙ end.no_digit in
-    rw (spelled, append_assoc whole (46 ∷ digits) tail, read_number-point whole (digits ++ tail) is, ended, end.read)
+    rw (spelled, append_assoc whole (46 ∷ digits) tail, scan_number-point whole (digits ++ tail) is, ended, end.read)
     (reached_as Double more end.rest (Some (Double, end.rest)) refl end.least)
 scientific-reaches number exponent more (inr (inl (digits, is, spelled))) is_exponent =
     let tail = exponent ++ more in
     let end = exponent-reaches exponent more is_exponent in
-    rw (spelled, read_number-stop (digits ++ tail), after_some-append is_digit digits tail is, end.no_digit, end.read)
+    rw (spelled, scan_number-stop (digits ++ tail), after_some-append is_digit digits tail is, end.no_digit, end.read)
     (reached_as Double more end.rest (Some (Double, end.rest)) refl end.least)
 scientific-reaches number exponent more (inr (inr is)) is_exponent =
     let tail = exponent ++ more in
     let end = exponent-reaches exponent more is_exponent in
-    rw (read_number-digits number tail is, end.no_digit, end.no_stop, end.read)
+    rw (scan_number-digits number tail is, end.no_digit, end.no_stop, end.read)
     (reached_as Double more end.rest (Some (Double, end.rest)) refl end.least)
 
-pub read_number-reaches : (kind : TokenKind) (text more : List ℕ) → IsUnsigned kind text → Reached (read_number (text ++ more)) kind more
-read_number-reaches kind text more (inl (same, is)) = rw same (integer-reaches text more is)
-read_number-reaches kind text more (inr (inl (same, is))) = rw same (decimal_text-reaches text more is)
-read_number-reaches kind text more (inr (inr (same, (number, exponent, mantissa, is, spelled)))) =
+-- each number in front is passed
+pub scan_number-reaches : (kind : TokenKind) (text more : List ℕ) → IsUnsigned kind text → Reached (scan_number (text ++ more)) kind more
+scan_number-reaches kind text more (inl (same, is)) = rw same (integer-reaches text more is)
+scan_number-reaches kind text more (inr (inl (same, is))) = rw same (decimal_text-reaches text more is)
+scan_number-reaches kind text more (inr (inr (same, (number, exponent, mantissa, is, spelled)))) =
     rw (same, spelled, append_assoc number exponent more) (scientific-reaches number exponent more mantissa is)
 
 -- a number has a character, and a fraction that is read is shorter than what follows its '.'
@@ -302,14 +326,15 @@ length-unsigned kind text (inr (inl (same, (whole, digits, all, is, spelled)))) 
 length-unsigned kind text (inr (inr (same, (number, exponent, mantissa, (mark, digits, is, signed, marked), spelled)))) =
     omega (arith, ap length spelled, ap length marked, length-append number exponent)
 
-pub read_fraction-shorter : (text : List ℕ) (found : ReadNumber) → read_fraction text ≡ Some found → length found.1 < length text
-unfolding read_fraction
-read_fraction-shorter text found e =
+-- what follows a number is shorter
+pub scan_fraction-shorter : (text : List ℕ) (found : ScannedToken) → scan_fraction text ≡ Some found → length found.1 < length text
+unfolding scan_fraction
+scan_fraction-shorter text found e =
     elim (after_some is_digit text) as (λ r. after_some is_digit text ≡ r → option_map (with_exponent Decimal) r ≡ Some found → length found.1 < length text) [
       | None ↦ λ read h. absurd (cc)
       | Some rest ↦ λ read h.
           let (run, is_run, split, stuck) = after_some-some is_digit text rest read in
           let end = with_exponent-reaches Decimal rest rest (omega arith) in
           let same : end.found ≡ found = same_Some end.found found (sym end.read_is ∙ h) in
-          omega (arith, ap length split, length-append run rest, is_run.0, end.least, ap (λ (p : ReadNumber). length p.1) same)
+          omega (arith, ap length split, length-append run rest, is_run.0, end.least, ap (λ (p : ScannedToken). length p.1) same)
     ] refl e

@@ -2,24 +2,26 @@
 use Rattle.std.proofs.Common.{◌≡◌, ℕ, zero, suc, ◌+◌, ◌<◌, ◌≤◌, ◌⊎◌, inl, inr, List, [], ◌∷◌, ◌++◌, length, refl, ap, ◌∙◌, sym, subst, arith, append-nil, length-append}
 use Rattle.std.proofs.lemmas.Option.{same_Some}
 use Rattle.std.specs.Str.{encode_utf8_all}
-use Rattle.bm_term.specs.Text.{IsLongest}
+use Rattle.rdf_text.specs.Text.{IsLongest}
 use Rattle.query_tokens.specs.declared.token.TokenKind.{TokenKind}
 use Rattle.query_tokens.specs.Token.{IsToken, IsOfSomeRule, Lexeme}
-use Rattle.query_tokens.specs.Blanks.{AreBlanks, after_blanks}
+use Rattle.query_tokens.specs.Blanks.{AreBlanks}
+use Rattle.query_tokens.specs.scanning.Blanks.{after_blanks}
 use Rattle.query_tokens.specs.Tokens.{BeginsWithToken, IsNextToken, AreTokensFrom}
-use Rattle.query_tokens.specs.Scanning.{Read, read_or_bad}
+use Rattle.query_tokens.specs.scanning.ScannedToken.{ScannedToken}
+use Rattle.query_tokens.specs.scanning.Tokens.{scan_or_bad}
 use Rattle.query_tokens.proofs.Walks.{goes_on}
 use Rattle.query_tokens.proofs.BlankRuns.{blanks-split}
-use Rattle.query_tokens.proofs.TokenReaches.{read_token-reaches}
-use Rattle.query_tokens.proofs.TokenLists.{length-token, read_or_bad-stands, blanks_longest}
+use Rattle.query_tokens.proofs.TokenReaches.{scan_token-reaches}
+use Rattle.query_tokens.proofs.TokenLists.{length-token, scan_or_bad-stands, blanks_longest}
 
 -- a text is of one kind: of the one that is read
 pub one_kind : (kind other : TokenKind) (text : List ℕ) → IsToken kind text → IsToken other text → kind ≡ other
 one_kind kind other text is is_other =
-    let first = read_token-reaches kind text [] is in
-    let second = read_token-reaches other text [] is_other in
+    let first = scan_token-reaches kind text [] is in
+    let second = scan_token-reaches other text [] is_other in
     let same : first.found ≡ second.found = same_Some first.found second.found (sym first.read_is ∙ second.read_is) in
-    sym (first.same (omega (arith, first.least))) ∙ ap (λ (found : Read). found.0) same ∙ second.same (omega (arith, second.least))
+    sym (first.same (omega (arith, first.least))) ∙ ap (λ (found : ScannedToken). found.0) same ∙ second.same (omega (arith, second.least))
 
 -- of a text one front is the longest
 one_longest : (Rule : List ℕ → Type 0) (a x b y : List ℕ) → IsLongest Rule a x → IsLongest Rule b y → a ++ x ≡ b ++ y → (a ≡ b) × (x ≡ y)
@@ -33,6 +35,7 @@ one_longest Rule a x b y first second whole =
           (a_is ∙ ap (λ xs. b ++ xs) none ∙ append-nil b, sym (y_is ∙ ap (λ xs. xs ++ x) none))
     ]
 
+-- tokens are the same where their parts are
 same_lexeme : (token other : Lexeme) → token.kind ≡ other.kind → token.text ≡ other.text → token.at ≡ other.at → token ≡ other
 same_lexeme token other kind text at =
     ap (λ k. record { kind = k; text = token.text; at = token.at }) kind
@@ -43,6 +46,7 @@ same_lexeme token other kind text at =
 abbrev SameToken : Lexeme → List ℕ → Lexeme → List ℕ → Type 0
 SameToken token after other after_other = (token ≡ other) × (after ≡ after_other)
 
+-- a text begins with one token
 same_parts : (at : ℕ) (whole : List ℕ) (token other : Lexeme) (after after_other : List ℕ) (begins : BeginsWithToken at whole token after) (begins_other : BeginsWithToken at whole other after_other)
     → token.kind ≡ other.kind → begins.text ≡ begins_other.text → after ≡ after_other → SameToken token after other after_other
 same_parts at whole token other after after_other begins begins_other kind text same = (
@@ -50,6 +54,7 @@ same_parts at whole token other after after_other begins begins_other kind text 
   same,
 )
 
+-- so the token and what follows it are one
 one_token : (at : ℕ) (whole : List ℕ) (token other : Lexeme) (after after_other : List ℕ) → BeginsWithToken at whole token after → BeginsWithToken at whole other after_other → SameToken token after other after_other
 one_token at whole token other after after_other begins begins_other =
     let split : begins.text ++ after ≡ begins_other.text ++ after_other = sym begins.split ∙ begins_other.split in
@@ -71,6 +76,7 @@ one_token at whole token other after after_other begins begins_other =
       ]
     ]
 
+-- so after blanks
 next_one : (at : ℕ) (whole : List ℕ) (token other : Lexeme) (after after_other : List ℕ) → IsNextToken at whole token after → IsNextToken at whole other after_other → SameToken token after other after_other
 next_one at whole token other after after_other next next_other =
     let (blanks, rest) = one_longest AreBlanks next.blanks next.rest next_other.blanks next_other.rest next.dropped next_other.dropped (sym next.split ∙ next_other.split) in
@@ -92,6 +98,7 @@ no_next at whole token after blank next =
     let long = begins_long (at + length (encode_utf8_all next.blanks)) next.rest token after next.token_stands in
     omega (arith, ap length none)
 
+-- so a source has one list of tokens
 pub one_list : (tokens others : List Lexeme) (at : ℕ) (whole : List ℕ) → AreTokensFrom at whole tokens → AreTokensFrom at whole others → tokens ≡ others
 one_list [] [] at whole are are_others = refl
 one_list [] (other ∷ others) at whole blank (after, next, rest) = absurd (no_next at whole other after blank next)
@@ -107,14 +114,16 @@ one_list (token ∷ tokens) (other ∷ others) at whole (after, next, rest) (aft
 abbrev SomeTokens : ℕ → List ℕ → Type 0
 SomeTokens at whole = (tokens : List Lexeme) × AreTokensFrom at whole tokens
 
+-- the text begins with a token, after blanks
 abbrev SomeNext : ℕ → List ℕ → Type 0
 SomeNext at whole = (token : Lexeme) × (after : List ℕ) × IsNextToken at whole token after × (length after < length whole)
 
+-- what is not blank begins with a token
 some_next : (at : ℕ) (whole front : List ℕ) → AreBlanks front → whole ≡ front ++ after_blanks whole → 0 < length (after_blanks whole) → SomeNext at whole
 some_next at whole front are split long =
     let rest = after_blanks whole in
-    let found = read_or_bad rest in
-    let stands = read_or_bad-stands rest long in
+    let found = scan_or_bad rest in
+    let stands = scan_or_bad-stands rest long in
     let place = at + length (encode_utf8_all front) in
     let begins : BeginsWithToken place rest record { kind = found.0; text = encode_utf8_all stands.text; at = place } found.1 =
     record { text = stands.text; split = stands.split; token_is = stands.token_is; bytes = refl; place = refl } in (
@@ -124,6 +133,7 @@ some_next at whole front are split long =
       omega (arith, ap length split, length-append front rest, ap length stands.split, length-append stands.text found.1, stands.some_text),
     )
 
+-- a text is blank or begins with a token
 ends_or_goes : (at : ℕ) (whole : List ℕ) → AreBlanks whole ⊎ SomeNext at whole
 ends_or_goes at whole =
     let (front, are, split) = blanks-split whole in
@@ -132,6 +142,7 @@ ends_or_goes at whole =
       | c ∷ cs ↦ λ e. inr (some_next at whole front are split (omega (arith, ap length e)))
     ] refl
 
+-- each text has tokens
 pub some_list : (n at : ℕ) (whole : List ℕ) → length whole ≤ n → SomeTokens at whole
 some_list zero at whole small = elim (ends_or_goes at whole) [
   | inl blank ↦ ([], blank)

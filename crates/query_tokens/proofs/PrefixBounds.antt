@@ -10,28 +10,31 @@ use Rattle.std.proofs.lemmas.List.{nil_from_length}
 use Rattle.std.proofs.lemmas.List.Folds.{list_all-append}
 use Rattle.std.proofs.lemmas.Option.{same_Some}
 use Rattle.std.proofs.lemmas.Str.{encodes-append, encodes-chars}
-use Rattle.bm_term.specs.Classes.{is_letter, is_pn_chars_base, is_sparql_pn_chars_u, is_sparql_pn_chars}
-use Rattle.bm_term.specs.Text.{after_run, after_some, IsRun}
-use Rattle.bm_term.proofs.TextLemmas.{after_run-split, after_run-append, after_run-stop, after_run-after_run}
+use Rattle.rdf_text.specs.Classes.{is_letter, is_pn_chars_base, is_sparql_pn_chars_u, is_sparql_pn_chars}
+use Rattle.rdf_text.specs.scanning.Text.{after_run, after_some}
+use Rattle.rdf_text.specs.Text.{IsRun}
+use Rattle.rdf_text.proofs.TextLemmas.{after_run-split, after_run-append, after_run-stop, after_run-after_run}
 use Rattle.query_tokens.specs.declared.token.TokenKind.TheVariants.{Prefix, Prefixed, Word, Bad}
-use Rattle.query_tokens.specs.PrefixedNames.{IsPrefixName, is_prefix_char, after_local, read_local, after_prefix, read_name, HasNoPrefixBefore}
+use Rattle.query_tokens.specs.PrefixedNames.{IsPrefixName}
+use Rattle.query_tokens.specs.scanning.PrefixedNames.{is_prefix_char, after_local, scan_local, after_prefix, scan_name, HasNoPrefixBefore}
 use Rattle.query_tokens.specs.Token.{IsToken}
-use Rattle.query_tokens.specs.Scanning.{Read, read_token, read_or_bad}
+use Rattle.query_tokens.specs.scanning.ScannedToken.{ScannedToken}
+use Rattle.query_tokens.specs.scanning.Tokens.{scan_token, scan_or_bad}
 use Rattle.query_tokens.proofs.Walks.{goes_on}
 use Rattle.query_tokens.proofs.PrefixTexts.{no_colon, after_prefix-again, after_prefix-sound}
-use Rattle.query_tokens.proofs.TokenTexts.{read_token-takes}
-use Rattle.query_tokens.proofs.TokenReaches.{read_token-name, letter_is_base}
+use Rattle.query_tokens.proofs.TokenTexts.{scan_token-takes}
+use Rattle.query_tokens.proofs.TokenReaches.{scan_token-name, letter_is_base}
 
 -- in the whole text none begins where more bytes are left than it has
 pub none_at_first : (text : List ℕ) → IsUtf8 text → HasNoPrefixBefore (length text) (chars text)
-none_at_first text utf8 front behind split more =
-    let bytes = sym (encodes-chars text utf8) ∙ ap encode_utf8_all split ∙ encodes-append front behind in
-    absurd (omega (arith, ap length bytes, length-append (encode_utf8_all front) (encode_utf8_all behind)))
+none_at_first text utf8 front after split more =
+    let bytes = sym (encodes-chars text utf8) ∙ ap encode_utf8_all split ∙ encodes-append front after in
+    absurd (omega (arith, ap length bytes, length-append (encode_utf8_all front) (encode_utf8_all after)))
 
 -- nor in what is left of a text
 pub none_in_rest : (left : ℕ) (text front rest : List ℕ) → HasNoPrefixBefore left text → text ≡ front ++ rest → HasNoPrefixBefore left rest
-none_in_rest left text front rest none split before behind cut more =
-    none (front ++ before) behind (split ∙ ap (λ xs. front ++ xs) cut ∙ sym (append_assoc front before behind)) more
+none_in_rest left text front rest none split before after cut more =
+    none (front ++ before) after (split ∙ ap (λ xs. front ++ xs) cut ∙ sym (append_assoc front before after)) more
 
 -- nor at its beginning, where it is longer
 pub none_here : (left : ℕ) (text : List ℕ) → IsUtf8 text → HasNoPrefixBefore left (chars text) → left < length text → after_prefix (chars text) ≡ None
@@ -44,15 +47,18 @@ base_is_inner : (c : ℕ) → is_pn_chars_base c ≡ true → is_sparql_pn_chars
 unfolding is_sparql_pn_chars is_sparql_pn_chars_u
 base_is_inner c is = rw is refl
 
+-- a character inside a prefix is one of prefixes
 inner_is_char : (c : ℕ) → is_sparql_pn_chars c ≡ true → is_prefix_char c ≡ true
 inner_is_char c is = rw is refl
 
+-- the name of a prefix is of such characters
 name_chars : (name : List ℕ) → IsPrefixName name → list_all is_prefix_char name ≡ true
 name_chars name (c, rest, begins, inl nothing, spelled) = rw (spelled, nothing) (both_true (inner_is_char c (base_is_inner c begins)) refl)
 name_chars name (c, rest, begins, inr (middle, last, dotted, ends, split), spelled) =
     let others : list_all is_prefix_char (middle ++ last ∷ []) ≡ true = rw list_all-append (both_true dotted (both_true (inner_is_char last ends) refl)) in
     rw (spelled, split) (both_true (inner_is_char c (base_is_inner c begins)) others)
 
+-- the colon is none of them
 no_prefix_colon : is_prefix_char 58 ≡ false
 no_prefix_colon = rw no_colon refl
 
@@ -73,12 +79,14 @@ ends_at_colon more end name rest all stuck is split =
     after_run-append is_prefix_char name (58 ∷ rest) (name_chars name is) ∙ after_run-stop is_prefix_char 58 rest no_prefix_colon in
     sym left ∙ ap (after_run is_prefix_char) split ∙ right
 
+-- texts with the same rest have the same front
 same_front : (xs ys zs : List ℕ) → xs ++ zs ≡ ys ++ zs → xs ≡ ys
 same_front xs ys zs same = elim (goes_on xs zs ys zs same) [
   | inl (more, ys_is, zs_is) ↦ let none : more ≡ [] = nil_from_length more (omega (arith, ap length zs_is, length-append more zs)) in sym (ys_is ∙ ap (λ m. xs ++ m) none ∙ append-nil xs)
   | inr (more, xs_is, zs_is) ↦ let none : more ≡ [] = nil_from_length more (omega (arith, ap length zs_is, length-append more zs)) in xs_is ∙ ap (λ m. ys ++ m) none ∙ append-nil ys
 ]
 
+-- a name with its colon after such characters makes a longer name
 named_front : (c : ℕ) (cs front name rest : List ℕ) → is_pn_chars_base c ≡ true → list_all is_prefix_char front ≡ true → IsPrefixName name → c ∷ cs ≡ front ++ (name ++ 58 ∷ rest) → after_prefix (c ∷ cs) ≡ Some rest
 named_front c cs [] name rest begins all is text = ap after_prefix text ∙ after_prefix-again name rest is
 named_front c cs (d ∷ ds) name rest begins all is text =
@@ -107,65 +115,71 @@ pub record BeginsUnprefixed (text : List ℕ) : Type 0 where
   pub begins : is_pn_chars_base c ≡ true
   pub none : after_prefix text ≡ None
 
-none_in_run : (text front behind : List ℕ) → BeginsUnprefixed text → text ≡ front ++ behind → length (encode_utf8_all (after_run is_prefix_char text)) < length (encode_utf8_all behind) → after_prefix behind ≡ None
-none_in_run text front behind unprefixed split more =
+-- no prefix begins inside a run of such characters
+none_in_run : (text front after : List ℕ) → BeginsUnprefixed text → text ≡ front ++ after → length (encode_utf8_all (after_run is_prefix_char text)) < length (encode_utf8_all after) → after_prefix after ≡ None
+none_in_run text front after unprefixed split more =
     let end = after_run is_prefix_char text in
     let (run, all, run_split) = after_run-split is_prefix_char text in
-    elim (after_prefix behind) as (λ r. after_prefix behind ≡ r → r ≡ None) [
+    elim (after_prefix after) as (λ r. after_prefix after ≡ r → r ≡ None) [
       | None ↦ λ e. refl
       | Some rest ↦ λ e.
-          let (name, is, named) = after_prefix-sound behind rest e in
-          elim (goes_on run end front behind (sym run_split ∙ split)) [
+          let (name, is, named) = after_prefix-sound after rest e in
+          elim (goes_on run end front after (sym run_split ∙ split)) [
             | inl (between, front_is, end_is) ↦
-                let bytes = ap encode_utf8_all end_is ∙ encodes-append between behind in
-                absurd (omega (arith, ap length bytes, length-append (encode_utf8_all between) (encode_utf8_all behind)))
-            | inr (between, run_is, behind_is) ↦
+                let bytes = ap encode_utf8_all end_is ∙ encodes-append between after in
+                absurd (omega (arith, ap length bytes, length-append (encode_utf8_all between) (encode_utf8_all after)))
+            | inr (between, run_is, after_is) ↦
                 let found : after_prefix (unprefixed.c ∷ unprefixed.cs) ≡ Some rest =
-                prefix_in_front unprefixed.c unprefixed.cs run end front between name rest unprefixed.begins (sym unprefixed.spelled ∙ run_split) all (after_run-after_run is_prefix_char text) run_is is (sym behind_is ∙ named) in
+                prefix_in_front unprefixed.c unprefixed.cs run end front between name rest unprefixed.begins (sym unprefixed.spelled ∙ run_split) all (after_run-after_run is_prefix_char text) run_is is (sym after_is ∙ named) in
                 let nothing : after_prefix (unprefixed.c ∷ unprefixed.cs) ≡ None = ap after_prefix (sym unprefixed.spelled) ∙ unprefixed.none in
                 absurd (cc)
           ]
     ] refl
 
-pub none_behind_run : (text rest : List ℕ) → IsUtf8 rest → BeginsUnprefixed (chars text) → chars rest ≡ after_run is_prefix_char (chars text) → HasNoPrefixBefore (length rest) (chars text)
-none_behind_run text rest utf8 unprefixed left front behind split more =
+-- so none begins where more is left than follows the run
+pub none_after_run : (text rest : List ℕ) → IsUtf8 rest → BeginsUnprefixed (chars text) → chars rest ≡ after_run is_prefix_char (chars text) → HasNoPrefixBefore (length rest) (chars text)
+none_after_run text rest utf8 unprefixed left front after split more =
     let bytes : length (encode_utf8_all (after_run is_prefix_char (chars text))) ≡ length rest = ap (λ cs. length (encode_utf8_all cs)) (sym left) ∙ ap length (encodes-chars rest utf8) in
-    none_in_run (chars text) front behind unprefixed split (omega arith)
+    none_in_run (chars text) front after unprefixed split (omega arith)
 
 -- a word begins so
-local_is_no_word : (rest : List ℕ) → (read_local rest).0 ≡ Word → ⊥
+local_is_no_word : (rest : List ℕ) → (scan_local rest).0 ≡ Word → ⊥
 local_is_no_word rest e =
-    elim (after_local rest) as (λ r. (option_map_or {U = Read} (λ rest. (Prefixed, rest)) r (Prefix, rest)).0 ≡ Word → ⊥) [
+    elim (after_local rest) as (λ r. (option_map_or {U = ScannedToken} (λ rest. (Prefixed, rest)) r (Prefix, rest)).0 ≡ Word → ⊥) [
       | None ↦ λ h. cc
       | Some after ↦ λ h. cc
     ] e
 
-named_word : (text : List ℕ) (found : Read) → read_name text ≡ Some found → found.0 ≡ Word → after_prefix text ≡ None
-unfolding read_name
+-- a word is no prefix
+named_word : (text : List ℕ) (found : ScannedToken) → scan_name text ≡ Some found → found.0 ≡ Word → after_prefix text ≡ None
+unfolding scan_name
 named_word text found read is =
-    elim (after_prefix text) as (λ r. option_map_or (λ rest. Some (read_local rest)) r (option_map (λ rest. (Word, rest)) (after_some is_letter text)) ≡ Some found → r ≡ None) [
+    elim (after_prefix text) as (λ r. option_map_or (λ rest. Some (scan_local rest)) r (option_map (λ rest. (Word, rest)) (after_some is_letter text)) ≡ Some found → r ≡ None) [
       | None ↦ λ h. refl
-      | Some rest ↦ λ h. absurd (local_is_no_word rest (ap (λ (p : Read). p.0) (same_Some (read_local rest) found h) ∙ is))
+      | Some rest ↦ λ h. absurd (local_is_no_word rest (ap (λ (p : ScannedToken). p.0) (same_Some (scan_local rest) found h) ∙ is))
     ] read
 
-letters_begin : (text front : List ℕ) (found : Read) → read_token text ≡ Some found → found.0 ≡ Word → IsRun is_letter front → text ≡ front ++ found.1 → BeginsUnprefixed text
+-- a word begins with a letter, and no prefix begins there
+letters_begin : (text front : List ℕ) (found : ScannedToken) → scan_token text ≡ Some found → found.0 ≡ Word → IsRun is_letter front → text ≡ front ++ found.1 → BeginsUnprefixed text
 letters_begin text [] found read is (long, all) split = absurd (omega arith)
 letters_begin text (c ∷ cs) found read is (long, all) split =
     let (first, others) = and_parts (is_letter c) (list_all is_letter cs) all in
     let base = letter_is_base c first in
-    let named : read_name text ≡ Some found = ap read_name split ∙ sym (read_token-name c (cs ++ found.1) base) ∙ ap read_token (sym split) ∙ read in
+    let named : scan_name text ≡ Some found = ap scan_name split ∙ sym (scan_token-name c (cs ++ found.1) base) ∙ ap scan_token (sym split) ∙ read in
     record { c = c; cs = cs ++ found.1; spelled = split; begins = base; none = named_word text found named is }
 
-word_text : (text : List ℕ) (found : Read) → read_token text ≡ Some found → found.0 ≡ Word → BeginsUnprefixed text
+-- so for a token that is a word
+word_text : (text : List ℕ) (found : ScannedToken) → scan_token text ≡ Some found → found.0 ≡ Word → BeginsUnprefixed text
 word_text text found read is =
-    let taken = read_token-takes text found read in
+    let taken = scan_token-takes text found read in
     let word : IsRun is_letter taken.front = subst (λ k. IsToken k taken.front) is taken.is in
     letters_begin text taken.front found read is word taken.split
 
-pub word_begins : (text : List ℕ) → (read_or_bad text).0 ≡ Word → BeginsUnprefixed text
-unfolding read_or_bad
+-- so for what is read at a place
+pub word_begins : (text : List ℕ) → (scan_or_bad text).0 ≡ Word → BeginsUnprefixed text
+unfolding scan_or_bad
 word_begins text is =
-    elim (read_token text) as (λ r. read_token text ≡ r → (unwrap_or r (Bad, [])).0 ≡ Word → BeginsUnprefixed text) [
+    elim (scan_token text) as (λ r. scan_token text ≡ r → (unwrap_or r (Bad, [])).0 ≡ Word → BeginsUnprefixed text) [
       | None ↦ λ e h. absurd (cc)
       | Some found ↦ λ e h. word_text text found e h
     ] refl is

@@ -4,53 +4,65 @@ use Rattle.std.specs.List.{list_all}
 use Rattle.std.specs.Option.{option_map_or}
 use Rattle.std.proofs.lemmas.Bool.{eqb-true, eq-eqb, and_parts, or_cases}
 use Rattle.std.proofs.lemmas.Bool.Decides.{nat_tests}
-use Rattle.bm_term.specs.Classes.{is_letter, is_alphanumeric, is_digit, is_pn_chars_base, is_sparql_label_first, is_sparql_pn_chars}
-use Rattle.bm_term.specs.Names.{after_language_tag}
-use Rattle.bm_term.specs.Text.{after_char, after_run, IsRun}
-use Rattle.bm_term.specs.Repetition.{Star}
-use Rattle.bm_term.proofs.TextLemmas.{length-after_run, after_char-some}
-use Rattle.bm_term.proofs.DottedNames.{after_dotted_name-reaches}
-use Rattle.bm_term.proofs.LanguageTags.{after_language_tag-reaches, no_letter, no_alphanumeric}
+use Rattle.rdf_text.specs.Classes.{is_letter, is_alphanumeric, is_digit, is_pn_chars_base, is_sparql_label_first, is_sparql_pn_chars}
+use Rattle.rdf_text.specs.scanning.Names.{after_language_tag}
+use Rattle.rdf_text.specs.scanning.Text.{after_char, after_run}
+use Rattle.rdf_text.specs.Text.{IsRun}
+use Rattle.rdf_text.specs.Repetition.{Star}
+use Rattle.rdf_text.proofs.TextLemmas.{length-after_run, after_char-some}
+use Rattle.rdf_text.proofs.DottedNames.{after_dotted_name-reaches}
+use Rattle.rdf_text.proofs.LanguageTags.{after_language_tag-reaches, no_letter, no_alphanumeric}
 use Rattle.query_tokens.specs.declared.token.TokenKind.{TokenKind}
 use Rattle.query_tokens.specs.declared.token.TokenKind.TheVariants.{Iri, Prefix, Prefixed, Variable, Quoted, Tag, Integer, Decimal, Double, Word, Blank, Sign, Quotes, Bad}
-use Rattle.rdf_escapes.specs.Strings.{is_quote}
-use Rattle.query_tokens.specs.Marks.{is_number_sign}
-use Rattle.query_tokens.specs.Iriref.{IsIriref, after_iri}
-use Rattle.query_tokens.specs.PrefixedNames.{IsPrefix, IsPrefixed, read_local, read_name}
-use Rattle.query_tokens.specs.Variables.{is_variable_inner, IsVariable, after_variable_name}
-use Rattle.rdf_escapes.specs.Strings.{IsStringPiece}
-use Rattle.query_tokens.specs.Strings.{IsQuoted, IsThreeQuotes, after_string}
-use Rattle.query_tokens.specs.Numbers.{IsSigned, IsDigits, IsFraction, IsScientific, read_fraction, read_number}
+use Rattle.rdf_escapes.specs.Strings.{is_quote, IsStringPiece}
+use Rattle.query_tokens.specs.Numbers.{is_number_sign, IsSigned, IsDigits, IsFraction, IsScientific}
+use Rattle.rdf_text.specs.Text.{IsOf}
+use Rattle.rdf_text.specs.Names.{IsLangtag, IsBlankNodeLabel}
+use Rattle.rdf_escapes.specs.Iris.{IsIriRef}
+use Rattle.query_tokens.specs.scanning.Iris.{after_iri}
+use Rattle.query_tokens.specs.PrefixedNames.{IsPrefix, IsPrefixed}
+use Rattle.query_tokens.specs.scanning.PrefixedNames.{scan_local, scan_name}
+use Rattle.query_tokens.specs.Variables.{is_variable_inner, IsVariable}
+use Rattle.query_tokens.specs.scanning.Variables.{after_variable_name}
+use Rattle.query_tokens.specs.Strings.{IsQuoted, IsThreeQuotes}
+use Rattle.query_tokens.specs.scanning.Strings.{after_string}
+use Rattle.query_tokens.specs.scanning.Numbers.{scan_fraction, scan_number}
 use Rattle.query_tokens.specs.Signs.{is_sign, IsSign}
-use Rattle.query_tokens.specs.Token.{IsTag, IsBlankLabel, IsToken}
-use Rattle.query_tokens.specs.Scanning.{Read, as_kind, or_sign, after_two_more, read_quoted, after_blank_label, after_circumflex, read_sign, read_marked, read_token}
+use Rattle.query_tokens.specs.Token.{IsToken}
+use Rattle.query_tokens.specs.scanning.ScannedToken.{ScannedToken}
+use Rattle.query_tokens.specs.scanning.Tokens.{as_kind, or_sign, after_two_more, scan_quoted, after_blank_label, after_circumflex, scan_sign, scan_marked, scan_token}
 use Rattle.query_tokens.proofs.Reached.{Reached, reached_as, reached_past}
 use Rattle.query_tokens.proofs.Iris.{after_iri-again}
 use Rattle.query_tokens.proofs.QuotedStrings.{after_string-again, body_begins}
-use Rattle.query_tokens.proofs.NumberTexts.{IsUnsigned, read_number-takes, read_number-reaches, length-unsigned, read_fraction-shorter}
-use Rattle.query_tokens.proofs.PrefixTexts.{prefix-reaches, prefixed-reaches, read_name-prefix, word-reaches}
+use Rattle.query_tokens.proofs.NumberTexts.{IsUnsigned, scan_number-takes, scan_number-reaches, length-unsigned, scan_fraction-shorter}
+use Rattle.query_tokens.proofs.PrefixTexts.{prefix-reaches, prefixed-reaches, scan_name-prefix, word-reaches}
 use Rattle.query_tokens.proofs.TokenTexts.{name-sound, name-again}
 
-pub read_token-name : (c : ℕ) (cs : List ℕ) → is_pn_chars_base c ≡ true → read_token (c ∷ cs) ≡ read_name (c ∷ cs)
-unfolding read_token
-read_token-name c cs is = rw is refl
+-- a letter begins a name
+pub scan_token-name : (c : ℕ) (cs : List ℕ) → is_pn_chars_base c ≡ true → scan_token (c ∷ cs) ≡ scan_name (c ∷ cs)
+unfolding scan_token
+scan_token-name c cs is = rw is refl
 
+-- a digit begins no name
 no_base_digit : (c : ℕ) → is_digit c ≡ true → is_pn_chars_base c ≡ false
 unfolding is_digit is_pn_chars_base
 no_base_digit c is = grind (arith, nat_tests)
 
-read_token-digit : (c : ℕ) (cs : List ℕ) → is_digit c ≡ true → read_token (c ∷ cs) ≡ read_number (c ∷ cs)
-unfolding read_token
-read_token-digit c cs is = rw (no_base_digit c is, is) refl
+-- a digit begins a number
+scan_token-digit : (c : ℕ) (cs : List ℕ) → is_digit c ≡ true → scan_token (c ∷ cs) ≡ scan_number (c ∷ cs)
+unfolding scan_token
+scan_token-digit c cs is = rw (no_base_digit c is, is) refl
 
 -- a character that is neither of names nor a digit
 abbrev pub IsMark : ℕ → Type 0
 IsMark c = (is_pn_chars_base c ≡ false) × (is_digit c ≡ false)
 
-read_token-mark : (c : ℕ) (cs : List ℕ) → IsMark c → read_token (c ∷ cs) ≡ read_marked c cs
-unfolding read_token
-read_token-mark c cs (no_name, no_digit) = rw (no_name, no_digit) refl
+-- a mark begins neither
+scan_token-mark : (c : ℕ) (cs : List ℕ) → IsMark c → scan_token (c ∷ cs) ≡ scan_marked c cs
+unfolding scan_token
+scan_token-mark c cs (no_name, no_digit) = rw (no_name, no_digit) refl
 
+-- a mark of strings is such a mark
 marks : (c : ℕ) → is_quote c ≡ true → IsMark c
 unfolding is_digit is_pn_chars_base
 marks c quote = elim (or_cases _ _ quote) [
@@ -58,104 +70,120 @@ marks c quote = elim (or_cases _ _ quote) [
   | inr e ↦ subst IsMark (sym (eqb-true c 39 e)) (refl, refl)
 ]
 
-read_token-less_than : (cs : List ℕ) → read_token (60 ∷ cs) ≡ as_kind Iri (after_iri cs)
-unfolding read_token read_marked is_digit is_pn_chars_base
-read_token-less_than cs = refl
+-- '<' begins an IRI
+scan_token-less_than : (cs : List ℕ) → scan_token (60 ∷ cs) ≡ as_kind Iri (after_iri cs)
+unfolding scan_token scan_marked is_digit is_pn_chars_base
+scan_token-less_than cs = refl
 
-read_token-quote : (mark : ℕ) (cs : List ℕ) → is_quote mark ≡ true → read_token (mark ∷ cs) ≡ read_quoted mark cs
-unfolding read_marked
-read_token-quote mark cs quote =
+-- a mark of strings begins a string
+scan_token-quote : (mark : ℕ) (cs : List ℕ) → is_quote mark ≡ true → scan_token (mark ∷ cs) ≡ scan_quoted mark cs
+unfolding scan_marked
+scan_token-quote mark cs quote =
     let no_bracket : (mark == 60) ≡ false = grind (arith, nat_tests) in
-    rw (read_token-mark mark cs (marks mark quote), no_bracket, quote) refl
+    rw (scan_token-mark mark cs (marks mark quote), no_bracket, quote) refl
 
-read_token-at_sign : (cs : List ℕ) → read_token (64 ∷ cs) ≡ as_kind Tag (after_language_tag is_letter is_alphanumeric cs)
-unfolding read_token read_marked is_digit is_pn_chars_base
-read_token-at_sign cs = refl
+-- '@' begins a tag
+scan_token-at_sign : (cs : List ℕ) → scan_token (64 ∷ cs) ≡ as_kind Tag (after_language_tag is_letter is_alphanumeric cs)
+unfolding scan_token scan_marked is_digit is_pn_chars_base
+scan_token-at_sign cs = refl
 
-read_token-low_line : (cs : List ℕ) → read_token (95 ∷ cs) ≡ as_kind Blank (after_blank_label cs)
-unfolding read_token read_marked is_digit is_pn_chars_base
-read_token-low_line cs = refl
+-- '_' begins a label
+scan_token-low_line : (cs : List ℕ) → scan_token (95 ∷ cs) ≡ as_kind Blank (after_blank_label cs)
+unfolding scan_token scan_marked is_digit is_pn_chars_base
+scan_token-low_line cs = refl
 
-read_token-colon : (cs : List ℕ) → read_token (58 ∷ cs) ≡ Some (read_local cs)
-unfolding read_token read_marked is_digit is_pn_chars_base
-read_token-colon cs = refl
+-- ':' is a prefix
+scan_token-colon : (cs : List ℕ) → scan_token (58 ∷ cs) ≡ Some (scan_local cs)
+unfolding scan_token scan_marked is_digit is_pn_chars_base
+scan_token-colon cs = refl
 
-read_token-question : (cs : List ℕ) → read_token (63 ∷ cs) ≡ or_sign (as_kind Variable (after_variable_name cs)) cs
-unfolding read_token read_marked read_sign is_digit is_pn_chars_base
-read_token-question cs = refl
+-- '?' begins a variable or is a sign
+scan_token-question : (cs : List ℕ) → scan_token (63 ∷ cs) ≡ or_sign (as_kind Variable (after_variable_name cs)) cs
+unfolding scan_token scan_marked scan_sign is_digit is_pn_chars_base
+scan_token-question cs = refl
 
-read_token-dollar : (cs : List ℕ) → read_token (36 ∷ cs) ≡ as_kind Variable (after_variable_name cs)
-unfolding read_token read_marked read_sign is_digit is_pn_chars_base
-read_token-dollar cs = refl
+-- '$' begins a variable
+scan_token-dollar : (cs : List ℕ) → scan_token (36 ∷ cs) ≡ as_kind Variable (after_variable_name cs)
+unfolding scan_token scan_marked scan_sign is_digit is_pn_chars_base
+scan_token-dollar cs = refl
 
-read_token-plus : (cs : List ℕ) → read_token (43 ∷ cs) ≡ or_sign (read_number cs) cs
-unfolding read_token read_marked read_sign is_digit is_pn_chars_base
-read_token-plus cs = refl
+-- '+' begins a number or is a sign
+scan_token-plus : (cs : List ℕ) → scan_token (43 ∷ cs) ≡ or_sign (scan_number cs) cs
+unfolding scan_token scan_marked scan_sign is_digit is_pn_chars_base
+scan_token-plus cs = refl
 
-read_token-hyphen : (cs : List ℕ) → read_token (45 ∷ cs) ≡ read_number cs
-unfolding read_token read_marked read_sign is_digit is_pn_chars_base
-read_token-hyphen cs = refl
+-- '-' begins a number
+scan_token-hyphen : (cs : List ℕ) → scan_token (45 ∷ cs) ≡ scan_number cs
+unfolding scan_token scan_marked scan_sign is_digit is_pn_chars_base
+scan_token-hyphen cs = refl
 
-read_token-stop : (cs : List ℕ) → read_token (46 ∷ cs) ≡ or_sign (read_fraction cs) cs
-unfolding read_token read_marked read_sign is_digit is_pn_chars_base
-read_token-stop cs = refl
+-- '.' begins a number or is a sign
+scan_token-stop : (cs : List ℕ) → scan_token (46 ∷ cs) ≡ or_sign (scan_fraction cs) cs
+unfolding scan_token scan_marked scan_sign is_digit is_pn_chars_base
+scan_token-stop cs = refl
 
-read_token-circumflex : (cs : List ℕ) → read_token (94 ∷ cs) ≡ Some (Sign, after_circumflex cs)
-unfolding read_token read_marked read_sign is_digit is_pn_chars_base
-read_token-circumflex cs = refl
+-- '^' begins a sign
+scan_token-circumflex : (cs : List ℕ) → scan_token (94 ∷ cs) ≡ Some (Sign, after_circumflex cs)
+unfolding scan_token scan_marked scan_sign is_digit is_pn_chars_base
+scan_token-circumflex cs = refl
 
 -- IRIs, prefixes and names
-iri-reaches : (front more : List ℕ) → IsIriref front → Reached (read_token (front ++ more)) Iri more
+iri-reaches : (front more : List ℕ) → IsOf IsIriRef front → Reached (scan_token (front ++ more)) Iri more
 iri-reaches front more (iri, spells) =
-    let (behind, split, reads) = after_iri-again iri front spells in
-    rw (split, read_token-less_than (behind ++ more), reads more) (reached_as Iri more more (Some (Iri, more)) refl (omega arith))
+    let (after, split, reads) = after_iri-again iri front spells in
+    rw (split, scan_token-less_than (after ++ more), reads more) (reached_as Iri more more (Some (Iri, more)) refl (omega arith))
 
-prefix_is_read : (front : List ℕ) → IsPrefix front → (rest : List ℕ) → read_token (front ++ rest) ≡ Some (read_local rest)
-prefix_is_read front (name, inl nothing, spelled) rest = rw (spelled, nothing) (read_token-colon rest)
+-- each prefix is read, and then a local name
+prefix_is_read : (front : List ℕ) → IsPrefix front → (rest : List ℕ) → scan_token (front ++ rest) ≡ Some (scan_local rest)
+prefix_is_read front (name, inl nothing, spelled) rest = rw (spelled, nothing) (scan_token-colon rest)
 prefix_is_read front (name, inr (c, others, begins, is_rest, split), spelled) rest =
     let whole : front ++ rest ≡ name ++ 58 ∷ rest = ap (λ xs. xs ++ rest) spelled ∙ append_assoc name (58 ∷ []) rest in
-    let first : read_token (name ++ 58 ∷ rest) ≡ read_name (name ++ 58 ∷ rest) = rw split (read_token-name c (others ++ 58 ∷ rest) begins) in
-    ap read_token whole ∙ first ∙ read_name-prefix name rest (c, others, begins, is_rest, split)
+    let first : scan_token (name ++ 58 ∷ rest) ≡ scan_name (name ++ 58 ∷ rest) = rw split (scan_token-name c (others ++ 58 ∷ rest) begins) in
+    ap scan_token whole ∙ first ∙ scan_name-prefix name rest (c, others, begins, is_rest, split)
 
-prefixed_token-reaches : (front more : List ℕ) → IsPrefixed front → Reached (read_token (front ++ more)) Prefixed more
+-- each prefixed name in front is passed
+prefixed_token-reaches : (front more : List ℕ) → IsPrefixed front → Reached (scan_token (front ++ more)) Prefixed more
 prefixed_token-reaches front more (prefix, local, is, is_local, spelled) =
     rw (spelled, append_assoc prefix local more, prefix_is_read prefix is (local ++ more)) (prefixed-reaches local more is_local)
 
+-- a letter begins a name
 pub letter_is_base : (c : ℕ) → is_letter c ≡ true → is_pn_chars_base c ≡ true
 unfolding is_letter is_pn_chars_base
 letter_is_base c is = rw is refl
 
-word_token-reaches : (front more : List ℕ) → IsRun is_letter front → Reached (read_token (front ++ more)) Word more
+-- each word in front is passed
+word_token-reaches : (front more : List ℕ) → IsRun is_letter front → Reached (scan_token (front ++ more)) Word more
 word_token-reaches [] more (long, all) = absurd (omega arith)
 word_token-reaches (c ∷ cs) more (long, all) =
     let (first, others) = and_parts (is_letter c) (list_all is_letter cs) all in
-    rw (read_token-name c (cs ++ more) (letter_is_base c first)) (word-reaches (c ∷ cs) more (long, all))
+    rw (scan_token-name c (cs ++ more) (letter_is_base c first)) (word-reaches (c ∷ cs) more (long, all))
 
 -- variables
-variable-reaches : (front more : List ℕ) → IsVariable front → Reached (read_token (front ++ more)) Variable more
+variable-reaches : (front more : List ℕ) → IsVariable front → Reached (scan_token (front ++ more)) Variable more
 variable-reaches front more (mark, name, is, named, spelled) =
     let rest = after_run is_variable_inner more in
     let read = name-again name more named in
     elim (or_cases _ _ is) [
-      | inl e ↦ rw (spelled, eqb-true mark 63 e, read_token-question (name ++ more), read) (reached_as Variable more rest (Some (Variable, rest)) refl (length-after_run is_variable_inner more))
-      | inr e ↦ rw (spelled, eqb-true mark 36 e, read_token-dollar (name ++ more), read) (reached_as Variable more rest (Some (Variable, rest)) refl (length-after_run is_variable_inner more))
+      | inl e ↦ rw (spelled, eqb-true mark 63 e, scan_token-question (name ++ more), read) (reached_as Variable more rest (Some (Variable, rest)) refl (length-after_run is_variable_inner more))
+      | inr e ↦ rw (spelled, eqb-true mark 36 e, scan_token-dollar (name ++ more), read) (reached_as Variable more rest (Some (Variable, rest)) refl (length-after_run is_variable_inner more))
     ]
 
 -- tags and labels
-tag-reaches : (front more : List ℕ) → IsTag front → Reached (read_token (front ++ more)) Tag more
-tag-reaches front more (tag, is, spelled) =
+tag-reaches : (front more : List ℕ) → IsOf IsLangtag front → Reached (scan_token (front ++ more)) Tag more
+tag-reaches front more (tag, (is, spelled)) =
     let (rest, read, less) = after_language_tag-reaches is_letter is_alphanumeric no_letter no_alphanumeric tag more is in
-    rw (spelled, read_token-at_sign (tag ++ more), read) (reached_as Tag more rest (Some (Tag, rest)) refl less)
+    rw (spelled, scan_token-at_sign (tag ++ more), read) (reached_as Tag more rest (Some (Tag, rest)) refl less)
 
-label-reaches : (front more : List ℕ) → IsBlankLabel front → Reached (read_token (front ++ more)) Blank more
+-- each label in front is passed
+label-reaches : (front more : List ℕ) → IsOf (IsBlankNodeLabel is_sparql_label_first is_sparql_pn_chars) front → Reached (scan_token (front ++ more)) Blank more
 unfolding after_blank_label
-label-reaches front more (label, is, spelled) =
+label-reaches front more (label, (is, spelled)) =
     let (rest, read, less) = after_dotted_name-reaches is_sparql_label_first is_sparql_pn_chars label more is in
-    rw (spelled, read_token-low_line (58 ∷ (label ++ more)), read) (reached_as Blank more rest (Some (Blank, rest)) refl less)
+    rw (spelled, scan_token-low_line (58 ∷ (label ++ more)), read) (reached_as Blank more rest (Some (Blank, rest)) refl less)
 
 -- strings
-empty-reaches : (mark : ℕ) (more : List ℕ) → is_quote mark ≡ true → Reached (read_quoted mark (mark ∷ more)) Quoted more
-unfolding read_quoted after_two_more
+empty-reaches : (mark : ℕ) (more : List ℕ) → is_quote mark ≡ true → Reached (scan_quoted mark (mark ∷ more)) Quoted more
+unfolding scan_quoted after_two_more
 empty-reaches mark more quote =
     let closes : after_string mark (mark ∷ more) ≡ Some more = after_string-again mark quote [] [] more refl in
     rw (eq-eqb mark mark refl, closes)
@@ -164,40 +192,46 @@ empty-reaches mark more quote =
       | Some rest ↦ λ e. reached_past Quotes Quoted more rest (Some (Quotes, rest)) refl (omega (arith, ap length (after_char-some mark more rest e)))
     ] refl)
 
-body-reaches : (mark : ℕ) (lexical body more : List ℕ) → is_quote mark ≡ true → Star (IsStringPiece mark) body lexical → Reached (read_quoted mark (body ++ mark ∷ more)) Quoted more
-unfolding read_quoted after_two_more
+-- the characters of a string and its mark are passed
+body-reaches : (mark : ℕ) (lexical body more : List ℕ) → is_quote mark ≡ true → Star (IsStringPiece mark) body lexical → Reached (scan_quoted mark (body ++ mark ∷ more)) Quoted more
+unfolding scan_quoted after_two_more
 body-reaches mark [] body more quote star = rw star (empty-reaches mark more quote)
 body-reaches mark (c ∷ cs) body more quote star =
     rw (body_begins mark c cs body (mark ∷ more) quote star, after_string-again mark quote (c ∷ cs) body more star) (reached_as Quoted more more (Some (Quoted, more)) refl (omega arith))
 
-quoted-reaches : (front more : List ℕ) → IsQuoted front → Reached (read_token (front ++ more)) Quoted more
+-- each string in front is passed
+quoted-reaches : (front more : List ℕ) → IsQuoted front → Reached (scan_token (front ++ more)) Quoted more
 quoted-reaches front more (lexical, spells) =
     let (body, star, spelled) = spells.string in
-    rw (spelled, append_assoc body (spells.mark ∷ []) more, read_token-quote spells.mark (body ++ spells.mark ∷ more) spells.quote)
+    rw (spelled, append_assoc body (spells.mark ∷ []) more, scan_token-quote spells.mark (body ++ spells.mark ∷ more) spells.quote)
     (body-reaches spells.mark lexical body more spells.quote star)
 
-quotes-reaches : (front more : List ℕ) → IsThreeQuotes front → Reached (read_token (front ++ more)) Quotes more
-unfolding read_quoted after_two_more
+-- three marks in front are passed
+quotes-reaches : (front more : List ℕ) → IsThreeQuotes front → Reached (scan_token (front ++ more)) Quotes more
+unfolding scan_quoted after_two_more
 quotes-reaches front more (mark, quote, spelled) =
-    rw (spelled, read_token-quote mark (mark ∷ mark ∷ more) quote, eq-eqb mark mark refl, eq-eqb mark mark refl) (reached_as Quotes more more (Some (Quotes, more)) refl (omega arith))
+    rw (spelled, scan_token-quote mark (mark ∷ mark ∷ more) quote, eq-eqb mark mark refl, eq-eqb mark mark refl) (reached_as Quotes more more (Some (Quotes, more)) refl (omega arith))
 
 -- numbers
-read_number-stop : (rest : List ℕ) → read_number (46 ∷ rest) ≡ read_fraction rest
-unfolding read_number is_digit
-read_number-stop rest = refl
+scan_number-stop : (rest : List ℕ) → scan_number (46 ∷ rest) ≡ scan_fraction rest
+unfolding scan_number is_digit
+scan_number-stop rest = refl
 
 -- a number without a sign begins with a digit or with a '.'
 abbrev BeginsAsNumber : List ℕ → Type 0
 BeginsAsNumber text = ((d : ℕ) × (rest : List ℕ) × (is_digit d ≡ true) × (text ≡ d ∷ rest)) ⊎ ((rest : List ℕ) × (text ≡ 46 ∷ rest))
 
+-- digits begin a number
 digits_begin : (digits rest : List ℕ) → IsDigits digits → BeginsAsNumber (digits ++ rest)
 digits_begin [] rest (long, all) = absurd (omega arith)
 digits_begin (d ∷ ds) rest (long, all) = let (first, others) = and_parts (is_digit d) (list_all is_digit ds) all in inl (d, ds ++ rest, first, refl)
 
+-- so do digits and a point
 whole_begins : (whole rest : List ℕ) → list_all is_digit whole ≡ true → BeginsAsNumber (whole ++ 46 ∷ rest)
 whole_begins [] rest all = inr (rest, refl)
 whole_begins (d ∷ ds) rest all = let (first, others) = and_parts (is_digit d) (list_all is_digit ds) all in inl (d, ds ++ 46 ∷ rest, first, refl)
 
+-- so does each number
 number_begins : (kind : TokenKind) (text more : List ℕ) → IsUnsigned kind text → BeginsAsNumber (text ++ more)
 number_begins kind text more (inl (same, is)) = digits_begin text more is
 number_begins kind text more (inr (inl (same, (whole, digits, all, is, spelled)))) =
@@ -209,37 +243,41 @@ number_begins kind text more (inr (inr (same, (number, exponent, inr (inl (digit
 number_begins kind text more (inr (inr (same, (number, exponent, inr (inr is), is_exponent, spelled)))) =
     rw (spelled, append_assoc number exponent more) (digits_begin number (exponent ++ more) is)
 
-read_token-number : (text : List ℕ) (found : Read) → BeginsAsNumber text → read_number text ≡ Some found → read_token text ≡ Some found
-read_token-number text found (inl (d, rest, is, split)) read =
-    ap read_token split ∙ read_token-digit d rest is ∙ ap read_number (sym split) ∙ read
-read_token-number text found (inr (rest, split)) read =
-    let fraction : read_fraction rest ≡ Some found = sym (read_number-stop rest) ∙ ap read_number (sym split) ∙ read in
-    ap read_token split ∙ read_token-stop rest ∙ ap (λ r. or_sign r rest) fraction
+-- what begins a number is read as one
+scan_token-number : (text : List ℕ) (found : ScannedToken) → BeginsAsNumber text → scan_number text ≡ Some found → scan_token text ≡ Some found
+scan_token-number text found (inl (d, rest, is, split)) read =
+    ap scan_token split ∙ scan_token-digit d rest is ∙ ap scan_number (sym split) ∙ read
+scan_token-number text found (inr (rest, split)) read =
+    let fraction : scan_fraction rest ≡ Some found = sym (scan_number-stop rest) ∙ ap scan_number (sym split) ∙ read in
+    ap scan_token split ∙ scan_token-stop rest ∙ ap (λ r. or_sign r rest) fraction
 
-unsigned-reaches : (kind : TokenKind) (text more : List ℕ) → IsUnsigned kind text → Reached (read_token (text ++ more)) kind more
+-- each number in front is passed
+unsigned-reaches : (kind : TokenKind) (text more : List ℕ) → IsUnsigned kind text → Reached (scan_token (text ++ more)) kind more
 unsigned-reaches kind text more is =
-    let reached = read_number-reaches kind text more is in
+    let reached = scan_number-reaches kind text more is in
     record {
       found = reached.found;
-      read_is = read_token-number (text ++ more) reached.found (number_begins kind text more is) reached.read_is;
+      read_is = scan_token-number (text ++ more) reached.found (number_begins kind text more is) reached.read_is;
       least = reached.least;
       same = reached.same;
     }
 
-signed-reaches : (kind : TokenKind) (sign : ℕ) (text more : List ℕ) → is_number_sign sign ≡ true → IsUnsigned kind text → Reached (read_token (sign ∷ (text ++ more))) kind more
+-- so with a sign
+signed-reaches : (kind : TokenKind) (sign : ℕ) (text more : List ℕ) → is_number_sign sign ≡ true → IsUnsigned kind text → Reached (scan_token (sign ∷ (text ++ more))) kind more
 signed-reaches kind sign text more mark is =
-    let reached = read_number-reaches kind text more is in
+    let reached = scan_number-reaches kind text more is in
     elim (or_cases _ _ mark) [
       | inl e ↦ rw (eqb-true sign 43 e) record {
         found = reached.found;
-        read_is = read_token-plus (text ++ more) ∙ ap (λ r. or_sign r (text ++ more)) reached.read_is;
+        read_is = scan_token-plus (text ++ more) ∙ ap (λ r. or_sign r (text ++ more)) reached.read_is;
         least = reached.least;
         same = reached.same;
       }
-      | inr e ↦ rw (eqb-true sign 45 e, read_token-hyphen (text ++ more)) reached
+      | inr e ↦ rw (eqb-true sign 45 e, scan_token-hyphen (text ++ more)) reached
     ]
 
-number-reaches : (kind : TokenKind) (Rule : List ℕ → Type 0) (front more : List ℕ) → ((text : List ℕ) → Rule text → IsUnsigned kind text) → IsSigned Rule front → Reached (read_token (front ++ more)) kind more
+-- so with a sign or without one
+number-reaches : (kind : TokenKind) (Rule : List ℕ → Type 0) (front more : List ℕ) → ((text : List ℕ) → Rule text → IsUnsigned kind text) → IsSigned Rule front → Reached (scan_token (front ++ more)) kind more
 number-reaches kind Rule front more unsigned (inl is) = unsigned-reaches kind front more (unsigned front is)
 number-reaches kind Rule front more unsigned (inr (sign, rest, mark, is, spelled)) = rw spelled (signed-reaches kind sign rest more mark (unsigned rest is))
 
@@ -294,12 +332,14 @@ sign_cases P of_123 of_125 of_46 of_59 of_44 of_42 of_94 of_47 of_124 of_43 of_6
       | inr e ↦ subst P (sym (eqb-true c 93 e)) of_93
     ]
 
-plain_sign : (c : ℕ) (more : List ℕ) → read_token (c ∷ more) ≡ Some (Sign, more) → Reached (read_token (c ∷ more)) Sign more
-plain_sign c more read = reached_as Sign more more (read_token (c ∷ more)) read (omega arith)
+-- a sign of one character is passed
+plain_sign : (c : ℕ) (more : List ℕ) → scan_token (c ∷ more) ≡ Some (Sign, more) → Reached (scan_token (c ∷ more)) Sign more
+plain_sign c more read = reached_as Sign more more (scan_token (c ∷ more)) read (omega arith)
 
-question-reaches : (more : List ℕ) → Reached (read_token (63 ∷ more)) Sign more
+-- '?' in front is passed
+question-reaches : (more : List ℕ) → Reached (scan_token (63 ∷ more)) Sign more
 question-reaches more =
-    rw (read_token-question more)
+    rw (scan_token-question more)
     (elim (after_variable_name more) as (λ r. after_variable_name more ≡ r → Reached (or_sign (as_kind Variable r) more) Sign more) [
       | None ↦ λ e. reached_as Sign more more (Some (Sign, more)) refl (omega arith)
       | Some rest ↦ λ e.
@@ -307,36 +347,40 @@ question-reaches more =
           reached_past Variable Sign more rest (Some (Variable, rest)) refl (omega (arith, ap length split, ap length spelled, length-append name rest))
     ] refl)
 
-plus-reaches : (more : List ℕ) → Reached (read_token (43 ∷ more)) Sign more
+-- so is '+'
+plus-reaches : (more : List ℕ) → Reached (scan_token (43 ∷ more)) Sign more
 plus-reaches more =
-    rw (read_token-plus more)
-    (elim (read_number more) as (λ r. read_number more ≡ r → Reached (or_sign r more) Sign more) [
+    rw (scan_token-plus more)
+    (elim (scan_number more) as (λ r. scan_number more ≡ r → Reached (or_sign r more) Sign more) [
       | None ↦ λ e. reached_as Sign more more (Some (Sign, more)) refl (omega arith)
       | Some found ↦ λ e.
-          let taken = read_number-takes more found e in
+          let taken = scan_number-takes more found e in
           reached_past found.0 Sign more found.1 (Some found) refl (omega (arith, ap length taken.split, length-append taken.front found.1, length-unsigned found.0 taken.front taken.is))
     ] refl)
 
-full_stop-reaches : (more : List ℕ) → Reached (read_token (46 ∷ more)) Sign more
+-- so is '.'
+full_stop-reaches : (more : List ℕ) → Reached (scan_token (46 ∷ more)) Sign more
 full_stop-reaches more =
-    rw (read_token-stop more)
-    (elim (read_fraction more) as (λ r. read_fraction more ≡ r → Reached (or_sign r more) Sign more) [
+    rw (scan_token-stop more)
+    (elim (scan_fraction more) as (λ r. scan_fraction more ≡ r → Reached (or_sign r more) Sign more) [
       | None ↦ λ e. reached_as Sign more more (Some (Sign, more)) refl (omega arith)
-      | Some found ↦ λ e. reached_past found.0 Sign more found.1 (Some found) refl (read_fraction-shorter more found e)
+      | Some found ↦ λ e. reached_past found.0 Sign more found.1 (Some found) refl (scan_fraction-shorter more found e)
     ] refl)
 
-circumflex-reaches : (more : List ℕ) → Reached (read_token (94 ∷ more)) Sign more
+-- so is '^'
+circumflex-reaches : (more : List ℕ) → Reached (scan_token (94 ∷ more)) Sign more
 circumflex-reaches more =
-    rw (read_token-circumflex more)
+    rw (scan_token-circumflex more)
     (elim (after_char 94 more) as (λ r. after_char 94 more ≡ r → Reached (Some (Sign, option_map_or (λ rest. rest) r more)) Sign more) [
       | None ↦ λ e. reached_as Sign more more (Some (Sign, more)) refl (omega arith)
       | Some rest ↦ λ e. reached_as Sign more rest (Some (Sign, rest)) refl (omega (arith, ap length (after_char-some 94 more rest e)))
     ] refl)
 
-one_sign-reaches : (c : ℕ) → is_sign c ≡ true → (more : List ℕ) → Reached (read_token (c ∷ more)) Sign more
-unfolding read_token read_marked read_sign is_sign is_digit is_pn_chars_base
+-- so is each sign of one character
+one_sign-reaches : (c : ℕ) → is_sign c ≡ true → (more : List ℕ) → Reached (scan_token (c ∷ more)) Sign more
+unfolding scan_token scan_marked scan_sign is_sign is_digit is_pn_chars_base
 one_sign-reaches c is =
-    sign_cases (λ x. (more : List ℕ) → Reached (read_token (x ∷ more)) Sign more)
+    sign_cases (λ x. (more : List ℕ) → Reached (scan_token (x ∷ more)) Sign more)
     (λ more. plain_sign 123 more refl)
     (λ more. plain_sign 125 more refl)
     (λ more. full_stop-reaches more)
@@ -355,22 +399,24 @@ one_sign-reaches c is =
     (λ more. plain_sign 93 more refl)
     c is
 
-sign-reaches : (front more : List ℕ) → IsSign front → Reached (read_token (front ++ more)) Sign more
+-- each sign in front is passed
+sign-reaches : (front more : List ℕ) → IsSign front → Reached (scan_token (front ++ more)) Sign more
 sign-reaches front more (inl (c, is, spelled)) = rw spelled (one_sign-reaches c is more)
-sign-reaches front more (inr spelled) = rw (spelled, read_token-circumflex (94 ∷ more)) (reached_as Sign more more (Some (Sign, more)) refl (omega arith))
+sign-reaches front more (inr spelled) = rw (spelled, scan_token-circumflex (94 ∷ more)) (reached_as Sign more more (Some (Sign, more)) refl (omega arith))
 
-pub read_token-reaches : (kind : TokenKind) (front more : List ℕ) → IsToken kind front → Reached (read_token (front ++ more)) kind more
-read_token-reaches Iri front more is = iri-reaches front more is
-read_token-reaches Prefix front more is = rw (prefix_is_read front is more) (prefix-reaches more)
-read_token-reaches Prefixed front more is = prefixed_token-reaches front more is
-read_token-reaches Variable front more is = variable-reaches front more is
-read_token-reaches Quoted front more is = quoted-reaches front more is
-read_token-reaches Tag front more is = tag-reaches front more is
-read_token-reaches Integer front more is = number-reaches Integer IsDigits front more (λ text rule. inl (refl, rule)) is
-read_token-reaches Decimal front more is = number-reaches Decimal IsFraction front more (λ text rule. inr (inl (refl, rule))) is
-read_token-reaches Double front more is = number-reaches Double IsScientific front more (λ text rule. inr (inr (refl, rule))) is
-read_token-reaches Word front more is = word_token-reaches front more is
-read_token-reaches Blank front more is = label-reaches front more is
-read_token-reaches Sign front more is = sign-reaches front more is
-read_token-reaches Quotes front more is = quotes-reaches front more is
-read_token-reaches Bad front more is = absurd is
+-- each token in front is passed
+pub scan_token-reaches : (kind : TokenKind) (front more : List ℕ) → IsToken kind front → Reached (scan_token (front ++ more)) kind more
+scan_token-reaches Iri front more is = iri-reaches front more is
+scan_token-reaches Prefix front more is = rw (prefix_is_read front is more) (prefix-reaches more)
+scan_token-reaches Prefixed front more is = prefixed_token-reaches front more is
+scan_token-reaches Variable front more is = variable-reaches front more is
+scan_token-reaches Quoted front more is = quoted-reaches front more is
+scan_token-reaches Tag front more is = tag-reaches front more is
+scan_token-reaches Integer front more is = number-reaches Integer IsDigits front more (λ text rule. inl (refl, rule)) is
+scan_token-reaches Decimal front more is = number-reaches Decimal IsFraction front more (λ text rule. inr (inl (refl, rule))) is
+scan_token-reaches Double front more is = number-reaches Double IsScientific front more (λ text rule. inr (inr (refl, rule))) is
+scan_token-reaches Word front more is = word_token-reaches front more is
+scan_token-reaches Blank front more is = label-reaches front more is
+scan_token-reaches Sign front more is = sign-reaches front more is
+scan_token-reaches Quotes front more is = quotes-reaches front more is
+scan_token-reaches Bad front more is = absurd is

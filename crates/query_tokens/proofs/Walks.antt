@@ -1,10 +1,11 @@
 -- Walks over pieces in a row, each of which is passed whatever follows it.
 use Rattle.std.proofs.Common.{◌≡◌, ℕ, ◌<◌, ◌≤◌, ◌⊎◌, inl, inr, Option, Some, None, List, [], ◌∷◌, ◌++◌, length, refl, ap, ◌∙◌, sym, arith, length-append}
 use Rattle.std.proofs.lemmas.Bool.{eq-eqb}
-use Rattle.bm_term.specs.Text.{after_char}
-use Rattle.bm_term.specs.Repetition.{Star, after_pieces}
-use Rattle.bm_term.proofs.TextLemmas.{after_char-some}
-use Rattle.bm_term.proofs.RepetitionLemmas.{GoesForward, after_pieces-step, PassesPieces, splits, passed}
+use Rattle.rdf_text.specs.scanning.Text.{after_char}
+use Rattle.rdf_text.specs.Repetition.{Star}
+use Rattle.rdf_text.specs.scanning.Repetition.{after_pieces}
+use Rattle.rdf_text.proofs.TextLemmas.{after_char-some}
+use Rattle.rdf_text.proofs.RepetitionLemmas.{GoesForward, after_pieces-step, PassesPieces, splits, passed}
 
 -- the front of a text that one step passes
 pub record Passed {V : Type 0} (P : List ℕ → V → Type 0) (text rest : List ℕ) : Type 0 where
@@ -14,23 +15,29 @@ pub record Passed {V : Type 0} (P : List ℕ → V → Type 0) (text rest : List
   pub split : text ≡ front ++ rest
 
 module _ {V : Type 0} (P : List ℕ → V → Type 0) (step : List ℕ → Option (List ℕ)) where
+  -- what a step takes is a piece
   abbrev pub IsSound : Type 0
   IsSound = (text rest : List ℕ) → step text ≡ Some rest → Passed P text rest
 
+  -- each piece has a character
   abbrev pub HaveLength : Type 0
   HaveLength = (front : List ℕ) (v : V) → P front v → 0 < length front
 
+  -- a step passes each piece
   abbrev pub PassesEach : Type 0
   PassesEach = (front rest : List ℕ) (v : V) → P front v → step (front ++ rest) ≡ Some rest
 
+  -- so it passes over pieces
   pub passes : IsSound → PassesPieces P step
   passes sound text rest e = let found = sound text rest e in (found.front, found.value, found.piece, found.split)
 
+  -- so it goes forward
   pub forward : IsSound → HaveLength → GoesForward step
   forward sound long text rest e =
       let found = sound text rest e in
       omega (arith, ap length found.split, length-append found.front rest, long found.front found.value found.piece)
 
+  -- what follows the pieces is no longer than the text
   pub length-after_pieces : IsSound → HaveLength → (text : List ℕ) → length (after_pieces step text) ≤ length text
   length-after_pieces sound long text =
       let (front, vs, star, split) = splits P step (passes sound) (forward sound long) text in
@@ -44,6 +51,7 @@ module _ {V : Type 0} (P : List ℕ → V → Type 0) (step : List ℕ → Optio
       pub star : Star P body values
       pub split : text ≡ body ++ close ∷ rest
 
+    -- pieces up to a closing character
     pub closed : IsSound → HaveLength → (text rest : List ℕ) → after_char close (after_pieces step text) ≡ Some rest → Closed text rest
     closed sound long text rest e =
         let (front, vs, star, split) = splits P step (passes sound) (forward sound long) text in
@@ -64,9 +72,11 @@ module _ {V : Type 0} (P : List ℕ → V → Type 0) (step : List ℕ → Optio
         let stop : after_pieces step (close ∷ rest) ≡ close ∷ rest = rw (after_pieces-step step ahead (close ∷ rest), stops rest) refl in
         rw (whole, stop, eq-eqb close close refl) refl
 
+-- after one piece the others follow
 pub after_pieces-more : (step : List ℕ → Option (List ℕ)) → GoesForward step → (text rest : List ℕ) → step text ≡ Some rest → after_pieces step text ≡ after_pieces step rest
 after_pieces-more step ahead text rest e = rw (after_pieces-step step ahead text, e) refl
 
+-- where no piece is in front, nothing is passed
 pub after_pieces-none : (step : List ℕ → Option (List ℕ)) → GoesForward step → (text : List ℕ) → step text ≡ None → after_pieces step text ≡ text
 after_pieces-none step ahead text e = rw (after_pieces-step step ahead text, e) refl
 
@@ -74,6 +84,7 @@ after_pieces-none step ahead text e = rw (after_pieces-step step ahead text, e) 
 abbrev pub GoesOn : List ℕ → List ℕ → List ℕ → List ℕ → Type 0
 GoesOn a x b y = (more : List ℕ) × (b ≡ a ++ more) × (x ≡ more ++ y)
 
+-- of two fronts of a text one goes on after the other
 pub goes_on : (a x b y : List ℕ) → a ++ x ≡ b ++ y → GoesOn a x b y ⊎ GoesOn b y a x
 goes_on [] x b y whole = inl (b, refl, whole)
 goes_on (c ∷ cs) x [] y whole = inr (c ∷ cs, refl, sym whole)

@@ -1,11 +1,9 @@
 pub mod Blanks
-pub mod Iriref
-pub mod Marks
 pub mod Numbers
 pub mod PrefixedNames
-pub mod Scanning
 pub mod Signs
 pub mod Strings
 pub mod Token
 pub mod Tokens
 pub mod Variables
+pub mod scanning

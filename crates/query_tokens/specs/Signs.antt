@@ -1,6 +1,6 @@
 -- The signs between terms: those of the terminals in quotes that this project reads. SPARQL 1.1 Query, section 19.8.
 use Rattle.std.specs.Prelude.{◌≡◌, ℕ, Bool, ◌||◌, ◌==◌, ◌⊎◌, IsTrue, List, [], ◌∷◌}
-use Rattle.bm_term.specs.Marks.{circumflex}
+use Rattle.rdf_text.specs.Marks.{circumflex}
 
 -- the signs of one character: { } . ; , * ^ / | + ? ! ( ) [ ]
 unfoldable pub is_sign : ℕ → Bool

@@ -1,11 +1,8 @@
 -- STRING_LITERAL1 and STRING_LITERAL2 of SPARQL 1.1 Query, section 19.8, with the escapes UCHAR of section 19.2. Here such
 -- an escape stands for a character of the string or IRI. Section 19.2 replaces it before tokens are read: there
 -- "\u005Cn" is a line feed, and here a backslash and an n.
-use Rattle.std.specs.Prelude.{◌≡◌, ℕ, IsTrue, Option, List, [], ◌∷◌}
-use Rattle.bm_term.specs.Text.{after_char}
+use Rattle.std.specs.Prelude.{◌≡◌, ℕ, IsTrue, List, [], ◌∷◌}
 use Rattle.rdf_escapes.specs.Strings.{is_quote, IsString}
-use Rattle.rdf_escapes.specs.Pieces.{after_values}
-use Rattle.rdf_escapes.specs.Reading.{string_piece}
 
 -- the text spells this lexical form, between quotation marks or between apostrophes
 pub record SpellsString (text lexical : List ℕ) : Type 0 where
@@ -19,7 +16,3 @@ IsQuoted text = (lexical : List ℕ) × SpellsString text lexical
 -- three equal quotation marks
 abbrev pub IsThreeQuotes : List ℕ → Type 0
 IsThreeQuotes text = (mark : ℕ) × IsTrue (is_quote mark) × (text ≡ mark ∷ mark ∷ mark ∷ [])
-
--- What follows, read from the front, where the first mark is read.
-unfoldable pub after_string : ℕ → List ℕ → Option (List ℕ)
-after_string mark text = after_char mark (after_values (string_piece mark) text)

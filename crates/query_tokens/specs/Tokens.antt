@@ -1,7 +1,7 @@
 -- The tokens of a source. At each place the token is the longest text that a rule allows. SPARQL 1.1 Query, section 19.8.
 use Rattle.std.specs.Prelude.{◌≡◌, ℕ, ◌+◌, ◌<◌, ◌⊎◌, List, [], ◌∷◌, ◌++◌, length, take, drop}
 use Rattle.std.specs.Str.{chars, encode_utf8_all}
-use Rattle.bm_term.specs.Text.{IsLongest, BeginsWithNone}
+use Rattle.rdf_text.specs.Text.{IsLongest, BeginsWithNone}
 use Rattle.query_tokens.specs.declared.token.TokenKind.{TokenKind}
 use Rattle.query_tokens.specs.declared.token.TokenKind.TheVariants.{Bad}
 use Rattle.query_tokens.specs.Token.{IsToken, IsOfSomeRule, Lexeme}
@@ -27,7 +27,7 @@ pub record BeginsWithToken (at : ℕ) (whole : List ℕ) (token : Lexeme) (after
   pub bytes : token.text ≡ encode_utf8_all text
   pub place : token.at ≡ at
 
--- the same behind the longest blanks that the text begins with
+-- the same after the longest blanks that the text begins with
 pub record IsNextToken (at : ℕ) (whole : List ℕ) (token : Lexeme) (after : List ℕ) : Type 0 where
   pub blanks : List ℕ
   pub rest : List ℕ

@@ -1,10 +1,9 @@
 -- VAR1 and VAR2. SPARQL 1.1 Query, section 19.8.
-use Rattle.std.specs.Prelude.{◌≡◌, ℕ, Bool, ◌||◌, ◌==◌, if◌then◌else◌, IsTrue, Option, Some, None, List, [], ◌∷◌}
+use Rattle.std.specs.Prelude.{◌≡◌, ℕ, Bool, ◌||◌, ◌==◌, IsTrue, List, [], ◌∷◌}
 use Rattle.std.specs.Int.{is_in_range}
 use Rattle.std.specs.List.{list_all}
-use Rattle.bm_term.specs.Classes.{is_sparql_label_first}
-use Rattle.bm_term.specs.Text.{after_run}
-use Rattle.query_tokens.specs.Marks.{question_mark, dollar_sign}
+use Rattle.rdf_text.specs.Classes.{is_sparql_label_first}
+use Rattle.rdf_text.specs.Marks.{dollar_sign, question_mark}
 
 -- '?' | '$'
 abbrev pub is_variable_mark : ℕ → Bool
@@ -22,8 +21,3 @@ IsVariableName name =
 -- ('?' | '$') VARNAME
 abbrev pub IsVariable : List ℕ → Type 0
 IsVariable text = (mark : ℕ) × (name : List ℕ) × IsTrue (is_variable_mark mark) × IsVariableName name × (text ≡ mark ∷ name)
-
--- what follows the longest name
-unfoldable pub after_variable_name : List ℕ → Option (List ℕ)
-after_variable_name [] = None
-after_variable_name (c ∷ cs) = if is_sparql_label_first c then Some (after_run is_variable_inner cs) else None

@@ -1,13 +1,13 @@
-// White space and comments.
+//! White space and comments.
 ghost use Rattle.std.specs.Prelude.{◌≡◌, IfSome};
 ghost use Rattle.std.specs.Option.{option_map};
 ghost use Rattle.std.specs.Str.{chars, IsUtf8};
-ghost use Rattle.query_tokens.specs.Blanks.{is_white_space, after_blank, after_blanks};
+ghost use Rattle.query_tokens.specs.Blanks.{is_white_space};
+ghost use Rattle.query_tokens.specs.scanning.Blanks.{after_blank, after_blanks};
 
-use crate::class_types::CommentChar;
-use bm_term::{after_run, split_char};
+use rdf_text::{CommentChar, after_run, split_char};
 
-// The text after the white space and the comments that it begins with.
+/// The text after the white space and the comments that it begins with.
 #[tactic(auto, using(crate::proofs::BlankRuns::blanks))]
 pub(crate) fn after_blanks(text: &str) -> &str
     ensures { chars result.now ≡ after_blanks (chars text.now) }
@@ -19,8 +19,8 @@ pub(crate) fn after_blanks(text: &str) -> &str
     rest
 }
 
-// The text after one character of white space or one comment.
-#[tactic(auto, unfolding(crate::specs::Blanks::after_blank))]
+/// The text after one character of white space or one comment.
+#[tactic(auto, unfolding(crate::specs::scanning::Blanks::after_blank))]
 fn after_blank(text: &str) -> Option<&str>
     ensures chars { option_map (λ rest. chars rest.now) result ≡ after_blank (chars text.now) }
     ensures utf8 { IfSome result (λ rest. IsUtf8 rest.now) }

@@ -1,12 +1,10 @@
-// The classes of characters of tokens as types, for the walks over a text that take one.
-ghost use Rattle.bm_term.specs.Classes as of;
-ghost use Rattle.query_tokens.specs.Blanks as blanks;
+//! The classes of characters of tokens as types, for the walks over a text that take one.
+ghost use Rattle.rdf_text.specs.Classes as of;
 ghost use Rattle.query_tokens.specs.PrefixedNames as names;
 ghost use Rattle.query_tokens.specs.Variables as variables;
+ghost use Rattle.query_tokens.specs.scanning.PrefixedNames as scanned;
 
-use bm_term::{
-    CharClass, is_digit, is_hex, is_sparql_label_first, is_sparql_pn_chars, is_sparql_pn_chars_u,
-};
+use rdf_text::{CharClass, is_digit, is_hex, is_sparql_label_first, is_sparql_pn_chars, is_sparql_pn_chars_u};
 
 /// `0` to `9`.
 #[derive(Clone, Copy)]
@@ -32,7 +30,7 @@ impl CharClass for Hex {
     }
 }
 
-/// What a variable's name may have behind its first character.
+/// What a variable's name may have after its first character.
 #[derive(Clone, Copy)]
 pub(crate) struct VariableInner;
 
@@ -46,25 +44,12 @@ impl CharClass for VariableInner {
     }
 }
 
-/// What may stand in a comment: all but LF and CR.
-#[derive(Clone, Copy)]
-pub(crate) struct CommentChar;
-
-impl CharClass for CommentChar {
-    ghost members = { blanks.is_comment_char };
-
-    #[tactic(auto, unfolding(crate::specs::Blanks::is_comment_char))]
-    fn has(self, c: char) -> bool {
-        !matches!(c, '\n' | '\r')
-    }
-}
-
 /// `.`.
 #[derive(Clone, Copy)]
 pub(crate) struct FullStop;
 
 impl CharClass for FullStop {
-    ghost members = { names.is_full_stop };
+    ghost members = { scanned.is_full_stop };
 
     fn has(self, c: char) -> bool {
         c == '.'
@@ -76,7 +61,7 @@ impl CharClass for FullStop {
 pub(crate) struct PrefixChar;
 
 impl CharClass for PrefixChar {
-    ghost members = { names.is_prefix_char };
+    ghost members = { scanned.is_prefix_char };
 
     fn has(self, c: char) -> bool {
         is_sparql_pn_chars(c as u32) || c == '.'
@@ -109,7 +94,7 @@ impl CharClass for LocalInner {
     }
 }
 
-/// What may stand behind a backslash in a local name.
+/// What may stand after a backslash in a local name.
 #[derive(Clone, Copy)]
 pub(crate) struct LocalEscape;
 

@@ -1,4 +1,4 @@
-// Laws of tokens, for all texts.
+//! Laws of tokens, for all texts.
 ghost use Rattle.std.specs.Prelude.{◌≡◌, ℕ, List};
 ghost use Rattle.query_tokens.specs.declared.token.TokenKind.{TokenKind};
 ghost use Rattle.query_tokens.specs.Token.{IsToken, Lexeme};

@@ -1,33 +1,30 @@
-// PNAME_NS and PNAME_LN, and words, which may begin like them.
+//! PNAME_NS and PNAME_LN, and words, which may begin like them.
 ghost use Rattle.std.specs.Prelude.{◌≡◌, ℕ, Bool, IfSome};
 ghost use Rattle.std.specs.Option.{option_map};
 ghost use Rattle.std.specs.Str.{chars, IsUtf8};
-ghost use Rattle.bm_term.specs.Repetition.{after_pieces};
-ghost use Rattle.query_tokens.specs.PrefixedNames.{after_one, after_two_digits, after_local_piece, after_dotted_piece, after_local, read_local, after_prefix, read_name, HasNoPrefixBefore};
-ghost use Rattle.query_tokens.specs.Scanning.{read_or_bad};
+ghost use Rattle.rdf_text.specs.scanning.Repetition.{after_pieces};
+ghost use Rattle.query_tokens.specs.scanning.PrefixedNames.{after_one, after_two_digits, after_local_piece, after_dotted_piece, after_local, scan_local, after_prefix, scan_name, HasNoPrefixBefore};
+ghost use Rattle.query_tokens.specs.scanning.Tokens.{scan_or_bad};
 
 use crate::class_types::{FullStop, Hex, LocalEscape, LocalFirst, LocalInner, PrefixChar};
 use crate::token::TokenKind;
-use bm_term::{
-    CharClass, Letter, PnCharsBase, SparqlPnChars, after_char, after_dotted_name, after_run,
-    after_some, split_char,
-};
+use rdf_text::{CharClass, Letter, PnCharsBase, SparqlPnChars, after_char, after_dotted_name, after_run, after_some, split_char};
 
-// A prefixed name, a prefix that has a name, or a word. No prefix begins where more than `unprefixed`
-// bytes are left.
-#[tactic(auto, unfolding(crate::specs::PrefixedNames::read_name))]
-pub(crate) fn read_name(text: &str, unprefixed: usize) -> Option<(TokenKind, &str)>
+/// A prefixed name, a prefix that has a name, or a word. No prefix begins where more than `unprefixed`
+/// bytes are left.
+#[tactic(auto, unfolding(crate::specs::scanning::PrefixedNames::scan_name))]
+pub(crate) fn scan_name(text: &str, unprefixed: usize) -> Option<(TokenKind, &str)>
     requires { HasNoPrefixBefore unprefixed (chars text.now) }
-    ensures chars { option_map (λ p. (p.0, chars p.1.now)) result ≡ read_name (chars text.now) }
+    ensures chars { option_map (λ p. (p.0, chars p.1.now)) result ≡ scan_name (chars text.now) }
     ensures utf8 { IfSome result (λ p. IsUtf8 p.1.now) }
 {
     match find_prefix(text, unprefixed) {
-        Some(rest) => Some(read_local(rest)),
+        Some(rest) => Some(scan_local(rest)),
         None => Some((TokenKind::Word, after_some(text, Letter)?)),
     }
 }
 
-// The text after a prefix that has a name; it is not looked for where it is known that there is none.
+/// The text after a prefix that has a name; it is not looked for where it is known that there is none.
 fn find_prefix(text: &str, unprefixed: usize) -> Option<&str>
     requires { HasNoPrefixBefore unprefixed (chars text.now) }
     ensures chars { option_map (λ rest. chars rest.now) result ≡ after_prefix (chars text.now) }
@@ -39,11 +36,11 @@ fn find_prefix(text: &str, unprefixed: usize) -> Option<&str>
     after_prefix(text)
 }
 
-// Where no prefix begins in a text that begins with a token of this kind: not within the characters of
-// names around a word. So each of them is looked at once for all words between them.
+/// Where no prefix begins in a text that begins with a token of this kind: not within the characters of
+/// names around a word. So each of them is looked at once for all words between them.
 pub(crate) fn unprefixed_from(kind: TokenKind, text: &str, unprefixed: usize) -> usize
     requires known { HasNoPrefixBefore unprefixed (chars text.now) }
-    requires kind { kind ≡ (read_or_bad (chars text.now)).0 }
+    requires kind { kind ≡ (scan_or_bad (chars text.now)).0 }
     ensures { HasNoPrefixBefore result (chars text.now) }
 {
     match kind {
@@ -52,8 +49,8 @@ pub(crate) fn unprefixed_from(kind: TokenKind, text: &str, unprefixed: usize) ->
     }
 }
 
-// PN_PREFIX ':'
-#[tactic(auto, unfolding(crate::specs::PrefixedNames::after_prefix))]
+/// PN_PREFIX ':'
+#[tactic(auto, unfolding(crate::specs::scanning::PrefixedNames::after_prefix))]
 fn after_prefix(text: &str) -> Option<&str>
     ensures chars { option_map (λ rest. chars rest.now) result ≡ after_prefix (chars text.now) }
     ensures utf8 { IfSome result (λ rest. IsUtf8 rest.now) }
@@ -61,9 +58,9 @@ fn after_prefix(text: &str) -> Option<&str>
     after_char(after_dotted_name(text, PnCharsBase, SparqlPnChars)?, ':')
 }
 
-// A prefixed name or a prefix, whose colon is already read.
-pub(crate) fn read_local(text: &str) -> (TokenKind, &str)
-    ensures chars { (result.0, chars result.1.now) ≡ read_local (chars text.now) }
+/// A prefixed name or a prefix, whose colon is already read.
+pub(crate) fn scan_local(text: &str) -> (TokenKind, &str)
+    ensures chars { (result.0, chars result.1.now) ≡ scan_local (chars text.now) }
     ensures utf8 { IsUtf8 result.1.now }
 {
     match after_local(text) {
@@ -72,8 +69,8 @@ pub(crate) fn read_local(text: &str) -> (TokenKind, &str)
     }
 }
 
-// PN_LOCAL
-#[tactic(auto, unfolding(crate::specs::PrefixedNames::after_local))]
+/// PN_LOCAL
+#[tactic(auto, unfolding(crate::specs::scanning::PrefixedNames::after_local))]
 fn after_local(text: &str) -> Option<&str>
     ensures chars { option_map (λ rest. chars rest.now) result ≡ after_local (chars text.now) }
     ensures utf8 { IfSome result (λ rest. IsUtf8 rest.now) }
@@ -92,8 +89,8 @@ fn after_dotted_pieces(text: &str) -> &str
     rest
 }
 
-// The text after any number of '.' and a piece that is none.
-#[tactic(auto, unfolding(crate::specs::PrefixedNames::after_dotted_piece))]
+/// The text after any number of '.' and a piece that is none.
+#[tactic(auto, unfolding(crate::specs::scanning::PrefixedNames::after_dotted_piece))]
 fn after_dotted_piece(text: &str) -> Option<&str>
     ensures chars { option_map (λ rest. chars rest.now) result ≡ after_dotted_piece (chars text.now) }
     ensures utf8 { IfSome result (λ rest. IsUtf8 rest.now) }
@@ -101,8 +98,8 @@ fn after_dotted_piece(text: &str) -> Option<&str>
     after_local_piece(after_run(text, FullStop), LocalInner)
 }
 
-// The text after a member of the class or after PLX.
-#[tactic(auto, unfolding(crate::specs::PrefixedNames::after_local_piece))]
+/// The text after a member of the class or after PLX.
+#[tactic(auto, unfolding(crate::specs::scanning::PrefixedNames::after_local_piece))]
 fn after_local_piece<C: CharClass>(text: &str, class: C) -> Option<&str>
     ensures chars { option_map (λ rest. chars rest.now) result ≡ after_local_piece C.members (chars text.now) }
     ensures utf8 { IfSome result (λ rest. IsUtf8 rest.now) }
@@ -115,7 +112,7 @@ fn after_local_piece<C: CharClass>(text: &str, class: C) -> Option<&str>
     }
 }
 
-#[tactic(auto, unfolding(crate::specs::PrefixedNames::after_two_digits))]
+#[tactic(auto, unfolding(crate::specs::scanning::PrefixedNames::after_two_digits))]
 fn after_two_digits(text: &str) -> Option<&str>
     ensures chars { option_map (λ rest. chars rest.now) result ≡ after_two_digits (chars text.now) }
     ensures utf8 { IfSome result (λ rest. IsUtf8 rest.now) }
@@ -123,7 +120,7 @@ fn after_two_digits(text: &str) -> Option<&str>
     after_one(after_one(text, Hex)?, Hex)
 }
 
-// The text after one member of the class.
+/// The text after one member of the class.
 fn after_one<C: CharClass>(text: &str, class: C) -> Option<&str>
     ensures chars { option_map (λ rest. chars rest.now) result ≡ after_one C.members (chars text.now) }
     ensures utf8 { IfSome result (λ rest. IsUtf8 rest.now) }

@@ -1,18 +1,18 @@
-// The tokens of a source, one after another.
+//! The tokens of a source, one after another.
 ghost use Rattle.std.specs.Prelude.{◌≡◌, ◌+◌, ◌-◌, ◌<◌, ◌≤◌, IfOk, IfSome, IfNone, All, length, map};
 ghost use Rattle.std.specs.Str.{chars, IsUtf8};
 ghost use Rattle.query_tokens.specs.Blanks.{AreBlanks};
-ghost use Rattle.query_tokens.specs.PrefixedNames.{HasNoPrefixBefore};
-ghost use Rattle.query_tokens.specs.Scanning.{read_or_bad};
+ghost use Rattle.query_tokens.specs.scanning.PrefixedNames.{HasNoPrefixBefore};
+ghost use Rattle.query_tokens.specs.scanning.Tokens.{scan_or_bad};
 ghost use Rattle.query_tokens.specs.Token.{shown};
 ghost use Rattle.query_tokens.specs.Tokens.{BeginsWithToken, IsNextToken, AreTokens, IsSliceOf};
 
 use crate::blanks::after_blanks;
 use crate::prefixed_names::unprefixed_from;
-use crate::scanning::read_or_bad;
+use crate::scanning::scan_or_bad;
 use crate::token::Token;
 use crate::token_list::TokenList;
-use bm_term::before;
+use rdf_text::before;
 use std::alloc::{AllocError, Global};
 
 /// The tokens of a query in order; its text is UTF-8. At each place the token is the longest text that a
@@ -44,9 +44,9 @@ fn tokens_of<'a>(alloc: Global, source: &'a str) -> Result<Vec<Token<'a>>, Alloc
     Ok(tokens)
 }
 
-// The next token of a text, the text after it, and where it is known that no prefix with a name begins
-// in that: where more bytes than these are left. `None` where only white space and comments are left.
-// The text is the end of a source of `size` bytes.
+/// The next token of a text, the text after it, and where it is known that no prefix with a name begins
+/// in that: where more bytes than these are left. `None` where only white space and comments are left.
+/// The text is the end of a source of `size` bytes.
 fn next_token<'a>(
     size: usize,
     text: &'a str,
@@ -70,19 +70,19 @@ fn next_token<'a>(
     Some((token, after, known))
 }
 
-// The token that the text begins with, or all of it as bad, and the text after it. The text begins at
-// this byte of the source.
+/// The token that the text begins with, or all of it as bad, and the text after it. The text begins at
+/// this byte of the source.
 fn first_token<'a>(at: usize, text: &'a str, unprefixed: usize) -> (Token<'a>, &'a str)
     requires some_text { 0 < length text.now }
     requires known { HasNoPrefixBefore unprefixed (chars text.now) }
     ensures token { BeginsWithToken at (chars text.now) (shown result.0) (chars result.1.now) }
     ensures end { length result.0.text.now + length result.1.now ≡ length text.now }
     ensures place { result.0.at ≡ at }
-    ensures kind { result.0.kind ≡ (read_or_bad (chars text.now)).0 }
+    ensures kind { result.0.kind ≡ (scan_or_bad (chars text.now)).0 }
     ensures shorter { length (chars result.1.now) < length (chars text.now) }
     ensures utf8 { IsUtf8 result.1.now }
 {
-    let (kind, after) = read_or_bad(text, unprefixed);
+    let (kind, after) = scan_or_bad(text, unprefixed);
     let token = Token {
         kind,
         text: before(text, after).as_bytes(),

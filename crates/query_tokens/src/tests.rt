@@ -3,7 +3,7 @@ use std::alloc::Global;
 use std::process::Abort;
 use std::test::Fail;
 
-// Texts, each with its tokens in order: a token as its kind and its text.
+/// Texts, each with its tokens in order: a token as its kind and its text.
 const NUMBERS: &str = r#"1 => Integer(1)
 007 => Integer(007)
 +5 => Integer(+5)
@@ -128,7 +128,7 @@ const IRIS_AND_BLANKS: &str = r#"<a><> => Iri(<a>) Iri(<>)
 SELECT#c => Word(SELECT)
 "#;
 
-// The same of texts with characters that do not show.
+/// The same of texts with characters that do not show.
 const HIDDEN: [(&str, &str); 18] = [
     ("\u{feff}", "Bad(\u{feff})"),
     ("\u{feff}a b", "Bad(\u{feff}a b)"),

@@ -1,4 +1,4 @@
-// What a token is.
+//! What a token is.
 
 /// The kinds of tokens, most of them a rule of SPARQL 1.1 Query, section 19.8.
 #[derive(Clone, Copy, Debug, PartialEq, Eq)]

@@ -1,5 +1,6 @@
 pub mod LocalValues
 pub mod SourceTokens
+pub mod SpelledTokens
 pub mod SpelledValues
 pub mod TermLaws
 pub mod TokenLaws

@@ -6,14 +6,14 @@ use Rattle.std.proofs.lemmas.List.Elements.{filter-append}
 use Rattle.std.proofs.lemmas.List.Folds.{list_all-append, concat-append}
 use Rattle.std.specs.Cmp.Derive.{both_true}
 use Rattle.std.specs.List.{list_all, filter, concat}
-use Rattle.bm_term.specs.Classes.{is_scalar, is_irichar, is_hex, is_digit, is_pn_chars_base, is_sparql_pn_chars_u, is_pn_chars_more, is_sparql_pn_chars}
-use Rattle.bm_term.specs.Marks.{colon, full_stop, backslash}
-use Rattle.bm_term.specs.Names.{is_dotted, IsDottedRest}
-use Rattle.bm_term.specs.Repetition.{Star}
-use Rattle.bm_term.specs.Text.{before}
-use Rattle.bm_term.proofs.TextLemmas.{after_run-append, after_run-stop, before-append}
+use Rattle.rdf_text.specs.Classes.{is_scalar, is_irichar, is_hex, is_digit, is_pn_chars_base, is_sparql_pn_chars_u, is_pn_chars_more, is_sparql_pn_chars}
+use Rattle.rdf_text.specs.Marks.{colon, full_stop, backslash}
+use Rattle.rdf_text.specs.Names.{is_dotted, IsDottedRest}
+use Rattle.rdf_text.specs.Repetition.{Star}
+use Rattle.rdf_text.specs.scanning.Text.{before}
+use Rattle.rdf_text.proofs.TextLemmas.{after_run-append, after_run-stop, before-append}
 use Rattle.query_tokens.specs.PrefixedNames.{IsPrefixName, is_local_escape, IsLocalPiece, is_local_first, is_local_inner, IsLocalRest, SpellsLocal}
-use Rattle.query_values.specs.Values.{is_no_colon, is_no_backslash, from_colon}
+use Rattle.query_values.specs.reading.Values.{is_no_colon, is_no_backslash, from_colon}
 
 -- members of a class are other than a character that is none
 others : (p : ℕ → Bool) (d : ℕ) → p d ≡ false → (c : ℕ) → p c ≡ true → (c == d) ≡ false

@@ -3,15 +3,11 @@ use Rattle.std.proofs.Common.{◌≡◌, ℕ, ◌+◌, true, ◌⊎◌, inl, inr
 use Rattle.std.proofs.lemmas.List.Elements.{All-nil, All-cons}
 use Rattle.std.proofs.lemmas.Str.{chars-encodes, scalars-chars}
 use Rattle.std.specs.Str.{chars, all_scalars, encode_utf8_all, IsUtf8}
-use Rattle.bm_term.proofs.Scalars.{scalars_front, scalars_back}
+use Rattle.rdf_text.proofs.Scalars.{scalars_front, scalars_back}
 use Rattle.query_tokens.specs.declared.token.TokenKind.TheVariants.{Bad}
 use Rattle.query_tokens.specs.Token.{IsToken, Lexeme}
 use Rattle.query_tokens.specs.Tokens.{IsLongestToken, IsBadRest, AreTokensFrom, AreTokens}
-use Rattle.query_values.specs.Values.{IsSpelled}
-
--- a token is spelled, or bad
-abbrev pub IsSpelledOrBad : Lexeme → Type 0
-IsSpelledOrBad token = (token.kind ≡ Bad) ⊎ IsSpelled token
+use Rattle.query_values.specs.reading.Values.{IsSpelled, IsSpelledOrBad}
 
 spelled_token : (token : Lexeme) (text after : List ℕ) → all_scalars text ≡ true → token.text ≡ encode_utf8_all text → IsLongestToken token.kind text after ⊎ IsBadRest token.kind text after → IsSpelledOrBad token
 spelled_token token text after scalars bytes (inl longest) =

@@ -8,44 +8,46 @@ use Rattle.std.specs.Char.{to_ascii_lowercase}
 use Rattle.std.specs.List.{concat}
 use Rattle.std.specs.Str.{chars, encode_utf8_all, IsUtf8}
 use Rattle.bm_term.specs.Canonical.{literal_of, IsTerm, plain, typed, xsd_string}
-use Rattle.bm_term.specs.Marks.{at_sign, colon, less_than, greater_than}
-use Rattle.bm_term.specs.Text.{behind_first, after_char}
-use Rattle.bm_term.proofs.TextLemmas.{after_char-some}
+use Rattle.rdf_text.specs.Marks.{at_sign, colon, less_than, greater_than}
+use Rattle.rdf_text.specs.scanning.Text.{after_first, after_char}
+use Rattle.rdf_text.proofs.TextLemmas.{after_char-some}
 use Rattle.rdf_escapes.specs.Iris.{IsIriRef}
 use Rattle.rdf_escapes.specs.Strings.{is_quote, IsString}
-use Rattle.rdf_escapes.specs.Pieces.{values, after_values}
-use Rattle.rdf_escapes.specs.Reading.{iri_piece, string_piece, read_iri_body, read_iri_ref, read_string_body, read_string}
+use Rattle.rdf_escapes.specs.scanning.Pieces.{values, after_values}
+use Rattle.rdf_escapes.specs.scanning.Iris.{iri_piece, scan_iri_body, scan_iri_ref}
+use Rattle.rdf_escapes.specs.scanning.Strings.{string_piece, scan_string_body, scan_string}
 use Rattle.rdf_escapes.proofs.Members.{iri_values-irichars}
 use Rattle.rdf_escapes.proofs.SpellingLaws.{iri_ref-again, string-again}
 use Rattle.query_tokens.specs.PrefixedNames.{IsPrefixName, IsPrefixed, SpellsLocal}
 use Rattle.query_tokens.specs.Token.{IsToken, Lexeme}
 use Rattle.query_tokens.specs.Variables.{is_variable_mark}
 use Rattle.query_tokens.specs.declared.token.TokenKind.TheVariants.{Prefixed}
-use Rattle.query_values.specs.Values.{IsSpelled, between_marks, AreIriChars, iri_of, prefix_of, local_of, lexical_of, tag_of, name_of, number_type, xsd_boolean, typed_literal, number_literal, boolean_literal}
+use Rattle.query_values.specs.Literals.{xsd_boolean}
+use Rattle.query_values.specs.reading.Values.{IsSpelled, between_marks, AreIriChars, iri_of, prefix_of, local_of, lexical_of, tag_of, name_of, number_type, typed_literal, number_literal, boolean_literal}
 use Rattle.query_values.proofs.LocalValues.{from_colon-name, before_colon, local_value, local_in_iri}
 use Rattle.query_values.proofs.TermLaws.{lower_characters, other_text}
 use Rattle.query_values.proofs.TokenLaws.{lexical_characters, number_type-irichars, number_type-other, xsd_boolean-irichars, xsd_boolean-other}
 
 -- what is read of a text in brackets is what stands behind the first of them
-read_is_behind : (text rest iri : List ℕ) → read_iri_ref text ≡ Some (iri, rest) → values iri_piece (behind_first text) ≡ iri
-unfolding read_iri_ref read_iri_body
+read_is_behind : (text rest iri : List ℕ) → scan_iri_ref text ≡ Some (iri, rest) → values iri_piece (after_first text) ≡ iri
+unfolding scan_iri_ref scan_iri_body
 read_is_behind text rest iri e =
     option_and_then_some _ (after_char less_than text) (iri, rest) e (λ body opens e.
     option_and_then_some _ (after_char greater_than (after_values iri_piece body)) (iri, rest) e (λ end closes e.
     let (same, ends) = some_pair_parts (values iri_piece body) iri end rest e in
-    ap (λ xs. values iri_piece (behind_first xs)) (after_char-some less_than text body opens) ∙ same))
+    ap (λ xs. values iri_piece (after_first xs)) (after_char-some less_than text body opens) ∙ same))
 
 pub iri_of-spells : (token : Lexeme) (iri : List ℕ) → IsIriRef (chars token.text) iri → iri_of token ≡ iri
 unfolding iri_of
 iri_of-spells token iri is =
-    read_is_behind (chars token.text) [] iri (ap read_iri_ref (sym (append-nil (chars token.text))) ∙ iri_ref-again (chars token.text) [] iri is)
+    read_is_behind (chars token.text) [] iri (ap scan_iri_ref (sym (append-nil (chars token.text))) ∙ iri_ref-again (chars token.text) [] iri is)
 
 pub iri_of-irichars : (token : Lexeme) → AreIriChars (iri_of token)
 unfolding iri_of
-iri_of-irichars token = iri_values-irichars (behind_first (chars token.text))
+iri_of-irichars token = iri_values-irichars (after_first (chars token.text))
 
-read_is_between : (mark : ℕ) (text rest lexical : List ℕ) → read_string mark text ≡ Some (lexical, rest) → between_marks text ≡ lexical
-unfolding read_string read_string_body
+read_is_between : (mark : ℕ) (text rest lexical : List ℕ) → scan_string mark text ≡ Some (lexical, rest) → between_marks text ≡ lexical
+unfolding scan_string scan_string_body
 read_is_between mark text rest lexical e =
     option_and_then_some _ (after_char mark text) (lexical, rest) e (λ body opens e.
     option_and_then_some _ (after_char mark (after_values (string_piece mark) body)) (lexical, rest) e (λ end closes e.
@@ -55,7 +57,7 @@ read_is_between mark text rest lexical e =
 pub lexical_of-spells : (token : Lexeme) (mark : ℕ) (lexical : List ℕ) → is_quote mark ≡ true → IsString mark (chars token.text) lexical → lexical_of token ≡ lexical
 unfolding lexical_of
 lexical_of-spells token mark lexical quote is =
-    read_is_between mark (chars token.text) [] lexical (ap (read_string mark) (sym (append-nil (chars token.text))) ∙ string-again mark (chars token.text) [] lexical quote is)
+    read_is_between mark (chars token.text) [] lexical (ap (scan_string mark) (sym (append-nil (chars token.text))) ∙ string-again mark (chars token.text) [] lexical quote is)
 
 pub prefix_of-spells : (token : Lexeme) (name local : List ℕ) → (name ≡ []) ⊎ IsPrefixName name → chars token.text ≡ name ++ colon ∷ local → prefix_of token ≡ name
 unfolding prefix_of

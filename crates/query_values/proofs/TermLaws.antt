@@ -10,10 +10,11 @@ use Rattle.std.proofs.lemmas.Bool.Decides.{nat_tests}
 use Rattle.std.proofs.lemmas.Slice.Eq.{bytes_eq-Decides}
 use Rattle.std.proofs.lemmas.Str.{encodes-chars}
 use lib.Utf8.{scalar}
-use Rattle.bm_term.specs.Classes.{is_scalar}
-use Rattle.bm_term.specs.Canonical.{RdfTerm, iri, plain, typed, escaped, IsTerm, IsCanonical, canonical_text}
-use Rattle.bm_term.specs.Marks.{quotation_mark, circumflex}
-use Rattle.bm_term.proofs.Scalars.{is_scalar-scalar}
+use Rattle.rdf_text.specs.Classes.{is_scalar}
+use Rattle.bm_term.specs.Canonical.{RdfTerm, iri, plain, typed, IsTerm, IsCanonical, canonical_text}
+use Rattle.rdf_text.specs.Spelling.{escaped}
+use Rattle.rdf_text.specs.Marks.{quotation_mark, circumflex}
+use Rattle.rdf_text.proofs.Scalars.{is_scalar-scalar}
 use Rattle.bm_term.proofs.WrittenTerms.{marked_bytes, typed_bytes}
 
 -- the canonical text of a term is canonical

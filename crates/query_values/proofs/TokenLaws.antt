@@ -5,16 +5,20 @@ use Rattle.std.specs.Char.{to_ascii_lowercase}
 use Rattle.std.specs.List.{list_all}
 use Rattle.std.specs.Str.{chars, all_scalars}
 use Rattle.std.specs.Prelude.{bytes_eq}
-use Rattle.bm_term.specs.Classes.{is_scalar, is_irichar}
+use Rattle.rdf_text.specs.Classes.{is_scalar, is_irichar}
 use Rattle.bm_term.specs.Canonical.{IsLowerTag, xsd_string}
 use Rattle.bm_term.proofs.LowerTags.{IsLowerTag-lowercase}
-use Rattle.bm_term.proofs.TextLemmas.{IsAscii-list_all}
+use Rattle.rdf_text.proofs.TextLemmas.{IsAscii-list_all}
 use Rattle.rdf_escapes.proofs.Members.{string_values-characters}
-use Rattle.bm_term.specs.Text.{behind_first}
+use Rattle.rdf_text.specs.scanning.Text.{after_first}
 use Rattle.query_tokens.specs.declared.token.TokenKind.{TokenKind}
 use Rattle.query_tokens.specs.declared.token.TokenKind.TheVariants.{Iri, Prefix, Prefixed, Variable, Quoted, Tag, Integer, Decimal, Double, Word, Blank, Sign, Quotes, Bad}
-use Rattle.query_tokens.specs.Token.{IsToken, IsTag, Lexeme}
-use Rattle.query_values.specs.Values.{IsSpelled, between_marks, lexical_of, tag_of, number_type, xsd_boolean, rdf_type}
+use Rattle.rdf_text.specs.Names.{IsLangtag}
+use Rattle.rdf_text.specs.Text.{IsOf}
+use Rattle.query_tokens.specs.Token.{IsToken, Lexeme}
+use Rattle.query_values.specs.Literals.{xsd_boolean}
+use Rattle.query_values.specs.Iris.{rdf_type}
+use Rattle.query_values.specs.reading.Values.{IsSpelled, between_marks, lexical_of, tag_of, number_type}
 
 pub lexical_characters : (token : Lexeme) → all_scalars (lexical_of token) ≡ true
 unfolding lexical_of
@@ -25,8 +29,8 @@ lexical_characters token =
     ]
 
 -- a tag, as it stands behind its mark
-pub tag_is_lower : (text : List ℕ) → IsTag text → IsLowerTag (map to_ascii_lowercase (behind_first text))
-tag_is_lower text (tag, is, spelled) = rw spelled (IsLowerTag-lowercase tag is)
+pub tag_is_lower : (text : List ℕ) → IsOf IsLangtag text → IsLowerTag (map to_ascii_lowercase (after_first text))
+tag_is_lower text (tag, (is, spelled)) = rw spelled (IsLowerTag-lowercase tag is)
 
 pub tag_of-lower : (token : Lexeme) → IsSpelled token → token.kind ≡ Tag → IsLowerTag (tag_of token)
 unfolding tag_of

@@ -1,26 +1,29 @@
 -- Worked examples of what tokens stand for.
 use Rattle.std.proofs.Common.{◌≡◌, ℕ, refl, List, [], ◌∷◌}
 use Rattle.std.specs.Prelude.{codes}
-use Rattle.bm_term.specs.Classes.{is_scalar, is_digit, is_hex, is_irichar}
-use Rattle.bm_term.specs.Canonical.{literal_of, plain, xsd_string, escape_letter, canonical_chars}
-use Rattle.bm_term.specs.Escapes.{echar_value}
-use Rattle.bm_term.specs.Marks.{line_feed}
-use Rattle.bm_term.specs.Text.{after_run}
+use Rattle.rdf_text.specs.Classes.{is_scalar, is_digit, is_hex, is_irichar}
+use Rattle.bm_term.specs.Canonical.{literal_of, plain, xsd_string, canonical_chars}
+use Rattle.rdf_text.specs.Spelling.{escape_letter, echar_value}
+use Rattle.rdf_text.specs.Marks.{line_feed}
+use Rattle.rdf_text.specs.scanning.Text.{after_run}
 use Rattle.rdf_escapes.specs.Escapes.{hex_value}
-use Rattle.rdf_escapes.specs.Pieces.{pieces}
+use Rattle.rdf_escapes.specs.scanning.Pieces.{pieces}
 use Rattle.rdf_escapes.specs.Strings.{is_string_char}
-use Rattle.rdf_escapes.specs.Reading.{hex_digit, four_digits, uchar_number, read_uchar, escaped_irichar, iri_piece, read_escape, string_piece}
+use Rattle.rdf_escapes.specs.scanning.Escapes.{hex_digit, four_digits, uchar_number, scan_uchar, scan_escape}
+use Rattle.rdf_escapes.specs.scanning.Iris.{escaped_irichar, iri_piece}
+use Rattle.rdf_escapes.specs.scanning.Strings.{string_piece}
 use Rattle.query_tokens.specs.declared.token.TokenKind.{TokenKind}
 use Rattle.query_tokens.specs.declared.token.TokenKind.TheVariants.{Iri, Prefix, Prefixed, Variable, Quoted, Tag, Decimal, Word}
 use Rattle.query_tokens.specs.Token.{Lexeme}
-use Rattle.query_values.specs.Values.{is_no_colon, is_no_backslash, iri_of, prefix_of, local_of, lexical_of, tag_of, name_of, number_type, xsd_boolean, number_literal, boolean_literal}
+use Rattle.query_values.specs.Literals.{xsd_boolean}
+use Rattle.query_values.specs.reading.Values.{is_no_colon, is_no_backslash, iri_of, prefix_of, local_of, lexical_of, tag_of, name_of, number_type, number_literal, boolean_literal}
 use Rattle.query_values.proofs.TokenLaws.{ascii_chars}
 
 abbrev pub token : TokenKind → List ℕ → Lexeme
 token kind text = record { kind = kind; text = text; at = 0 }
 
 an_escape_in_an_iri : iri_of (token Iri (codes "<a:\\u0062>")) ≡ codes "a:b"
-unfolding iri_of pieces iri_piece escaped_irichar read_uchar uchar_number four_digits hex_digit hex_value is_digit is_hex is_scalar is_irichar
+unfolding iri_of pieces iri_piece escaped_irichar scan_uchar uchar_number four_digits hex_digit hex_value is_digit is_hex is_scalar is_irichar
 an_escape_in_an_iri = rw (ascii_chars (codes "<a:\\u0062>") refl) refl
 
 a_prefix : prefix_of (token Prefixed (codes "ex:a:b")) ≡ codes "ex"
@@ -37,7 +40,7 @@ unfolding local_of after_run is_no_colon is_no_backslash
 a_local_name = rw (ascii_chars (codes "ex:a\\-b:%41") refl) refl
 
 a_string : lexical_of (token Quoted (codes "'a\\n\"'")) ≡ 0x61 ∷ line_feed ∷ 0x22 ∷ []
-unfolding lexical_of pieces string_piece read_escape echar_value is_string_char is_scalar
+unfolding lexical_of pieces string_piece scan_escape echar_value is_string_char is_scalar
 a_string = rw (ascii_chars (codes "'a\\n\"'") refl) refl
 
 a_tag : tag_of (token Tag (codes "@en-GB")) ≡ codes "en-gb"

@@ -1,1 +1,4 @@
-pub mod Values
+pub mod Iris
+pub mod Literals
+pub mod Variables
+pub mod reading

@@ -11,9 +11,9 @@ pub use terms::{
 };
 pub use value_laws::{
     iris_stand_for_what_they_spell, literals_are_terms, local_names_stand_for_what_they_spell,
-    prefixes_stand_before_the_colon, strings_stand_for_what_they_spell,
-    tags_stand_for_themselves_in_lower_case, tokens_are_spelled,
-    variables_are_named_behind_their_mark,
+    numbers_and_truth_values_are_typed, prefixes_stand_before_the_colon,
+    strings_stand_for_what_they_spell, tags_stand_for_themselves_in_lower_case, tokens_are_spelled,
+    variables_are_named_after_their_mark,
 };
 pub use values::{iri, prefix, prefixed_iri, variable_name};
 

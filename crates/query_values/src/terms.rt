@@ -1,13 +1,15 @@
 // What tokens stand for: terms.
 ghost use Rattle.std.specs.Prelude.{◌≡◌, ◌≢◌, ◌++◌, IfOk, OnOk, codes, string_bytes};
 ghost use Rattle.std.specs.Str.{chars, encode_utf8_all};
-ghost use Rattle.bm_term.specs.Canonical.{iri as iri_with, typed, xsd_string, escaped, canonical_text};
+ghost use Rattle.bm_term.specs.Canonical.{iri as iri_with, typed, xsd_string, canonical_text};
+ghost use Rattle.rdf_text.specs.Spelling.{escaped};
 ghost use Rattle.query_tokens.specs.Token.{shown};
 ghost use Rattle.query_tokens.specs.declared.token.TokenKind.TheVariants as kinds;
-ghost use Rattle.query_values.specs.Values.{IsSpelled, AreIriChars, between_marks, lexical_of, tag_of, number_type, plain_literal, tagged_literal, typed_literal, number_literal, boolean_literal, type_iri};
+ghost use Rattle.query_values.specs.reading.Values.{IsSpelled, AreIriChars, between_marks, lexical_of, tag_of, number_type, plain_literal, tagged_literal, typed_literal, number_literal, boolean_literal, type_iri};
 
-use crate::values::{behind_first, text_of};
-use bm_term::{Term, is_xsd_string, push_lower, push_spelling, split_char};
+use crate::values::{after_first, text_of};
+use bm_term::{Term, is_xsd_string};
+use rdf_text::{push_lower, push_spelling, split_char};
 use query_tokens::{Token, TokenKind};
 use rdf_escapes::push_string_pieces;
 use std::alloc::{AllocError, Global};
@@ -56,7 +58,7 @@ pub fn tagged_term(alloc: Global, string: Token<'_>, tag: Token<'_>) -> Result<T
     let mut text = String::new(alloc);
     push_quoted(&mut text, string)?;
     text.push('@')?;
-    push_lower(&mut text, behind_first(text_of(tag)))?;
+    push_lower(&mut text, after_first(text_of(tag)))?;
     Ok(Term::from_canonical(text.into_bytes()))
 }
 
@@ -100,7 +102,7 @@ pub fn boolean_term(alloc: Global, token: Token<'_>) -> Result<Term, AllocError>
 }
 
 // The IRI of a number's datatype.
-#[tactic(auto, unfolding(crate::specs::Values::number_type))]
+#[tactic(auto, unfolding(crate::specs::reading::Values::number_type))]
 fn number_type(kind: TokenKind) -> &'static str
     ensures { result.now ≡ number_type kind }
 {
@@ -143,7 +145,7 @@ fn push_datatype(out: &mut String, datatype: &str) -> Result<(), AllocError>
 }
 
 // Writes the lexical form of a string between quotation marks.
-#[tactic(auto, unfolding(crate::specs::Values::lexical_of))]
+#[tactic(auto, unfolding(crate::specs::reading::Values::lexical_of))]
 fn push_quoted(out: &mut String, string: Token<'_>) -> Result<(), AllocError>
     requires { IsSpelled (shown string) }
     ensures { OnOk result (string_bytes out.new ≡ string_bytes out.old ++ canonical_text (plain_literal (shown string.entry))) }

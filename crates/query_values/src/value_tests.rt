@@ -1,6 +1,6 @@
 ghost use Rattle.std.specs.Prelude.{◌≡◌, IfOk};
 ghost use Rattle.query_tokens.specs.Token.{shown};
-ghost use Rattle.query_values.specs.Values.{IsSpelled};
+ghost use Rattle.query_values.specs.reading.Values.{IsSpelled};
 
 use super::*;
 use bm_term::Term;

@@ -1,4 +1,4 @@
--- What is read behind a backslash is an escape, and each escape is read.
+-- What is read after a backslash is an escape, and each escape is read.
 use Rattle.std.proofs.Common.{◌≡◌, ℕ, ◌+◌, ◌*◌, true, false, ◌==◌, if◌then◌else◌, Option, Some, None, List, [], ◌∷◌, ◌++◌, length, refl, ap, ◌∙◌, sym, arith, append_assoc, length-append}
 use Rattle.std.proofs.lemmas.Bool.{and_parts}
 use lib.Utf8.{scalar}
@@ -6,11 +6,11 @@ use Rattle.std.proofs.lemmas.Option.{cond_some, option_and_then_some, same_Some,
 use Rattle.std.proofs.lemmas.List.Folds.{list_all-append}
 use Rattle.std.specs.Cmp.Derive.{both_true}
 use Rattle.std.specs.List.{list_all}
-use Rattle.bm_term.specs.Classes.{is_scalar, is_hex}
-use Rattle.bm_term.specs.Marks.{backslash}
-use Rattle.bm_term.proofs.Scalars.{is_scalar-scalar}
-use Rattle.rdf_escapes.specs.Escapes.{letter_u, capital_u, hex_value, hex_number, uchar_length, IsUchar}
-use Rattle.rdf_escapes.specs.Reading.{hex_digit, four_digits, eight_digits, uchar_number, read_uchar}
+use Rattle.rdf_text.specs.Classes.{is_scalar, is_hex}
+use Rattle.rdf_text.specs.Marks.{backslash, letter_u, capital_u}
+use Rattle.rdf_text.proofs.Scalars.{is_scalar-scalar}
+use Rattle.rdf_escapes.specs.Escapes.{hex_value, hex_number, uchar_length, IsUchar}
+use Rattle.rdf_escapes.specs.scanning.Escapes.{hex_digit, four_digits, eight_digits, uchar_number, scan_uchar}
 
 -- the text begins with digits that spell the number
 pub record BeginsWithDigits (text : List ℕ) (count number : ℕ) (rest : List ℕ) : Type 0 where
@@ -20,6 +20,7 @@ pub record BeginsWithDigits (text : List ℕ) (count number : ℕ) (rest : List 
   pub spells : number ≡ hex_number digits
   pub split : text ≡ digits ++ rest
 
+-- what is taken is a digit, with its value
 hex_digit-some : (text rest : List ℕ) (v : ℕ) → hex_digit text ≡ Some (v, rest) → (c : ℕ) × (is_hex c ≡ true) × (hex_value c ≡ v) × (text ≡ c ∷ rest)
 unfolding hex_digit
 hex_digit-some [] rest v e = absurd (cc)
@@ -27,9 +28,11 @@ hex_digit-some (c ∷ cs) rest v e =
     let (is, same) = cond_some (is_hex c) (hex_value c, cs) (v, rest) e in
     (c, is, ap (λ p. p.0) same, ap (λ (p : ℕ × List ℕ). c ∷ p.1) same)
 
+-- the number that four digits spell
 four_digits-number : (a b c d : ℕ) → hex_number (a ∷ b ∷ c ∷ d ∷ []) ≡ 4096 * hex_value a + 256 * hex_value b + 16 * hex_value c + hex_value d
 four_digits-number a b c d = omega arith
 
+-- what is taken are four digits, with their number
 pub four_digits-some : (text rest : List ℕ) (n : ℕ) → four_digits text ≡ Some (n, rest) → BeginsWithDigits text 4 n rest
 unfolding four_digits
 four_digits-some text rest n e =
@@ -55,6 +58,7 @@ both_numbers : (high low : List ℕ) → length high ≡ 4 → length low ≡ 4 
 both_numbers (a ∷ b ∷ c ∷ d ∷ []) (e ∷ f ∷ g ∷ h ∷ []) long long' = omega arith
 both_numbers high low long long' = absurd (omega arith)
 
+-- what is taken are eight digits, with their number
 pub eight_digits-some : (text rest : List ℕ) (n : ℕ) → eight_digits text ≡ Some (n, rest) → BeginsWithDigits text 8 n rest
 unfolding eight_digits
 eight_digits-some text rest n e =
@@ -87,6 +91,7 @@ fours : (digits : List ℕ) → length digits ≡ 8 → (high low : List ℕ) ×
 fours (a ∷ b ∷ c ∷ d ∷ e ∷ f ∷ g ∷ h ∷ []) long = (a ∷ b ∷ c ∷ d ∷ [], e ∷ f ∷ g ∷ h ∷ [], refl, refl, refl)
 fours digits long = absurd (omega arith)
 
+-- eight digits are taken
 pub eight_digits-again : (digits rest : List ℕ) → length digits ≡ 8 → list_all is_hex digits ≡ true → eight_digits (digits ++ rest) ≡ Some (hex_number digits, rest)
 unfolding eight_digits
 eight_digits-again digits rest long hex =
@@ -100,6 +105,7 @@ pub record BeginsWithUchar (letter : ℕ) (text : List ℕ) (c : ℕ) (rest : Li
   pub is : IsUchar (backslash ∷ letter ∷ digits) c
   pub split : text ≡ digits ++ rest
 
+-- what is taken are as many digits as the letter says
 uchar_number-some : (letter : ℕ) (text rest : List ℕ) (n : ℕ) → uchar_number letter text ≡ Some (n, rest) → (count : ℕ) × (uchar_length letter ≡ Some count) × BeginsWithDigits text count n rest
 unfolding uchar_number uchar_length
 uchar_number-some letter text rest n e =
@@ -112,9 +118,10 @@ uchar_number-some letter text rest n e =
           ] h
     ] e
 
-pub read_uchar-some : (letter : ℕ) (text rest : List ℕ) (c : ℕ) → read_uchar letter text ≡ Some (c, rest) → BeginsWithUchar letter text c rest
-unfolding read_uchar
-read_uchar-some letter text rest c e =
+-- what is taken after the backslash is a UCHAR
+pub scan_uchar-some : (letter : ℕ) (text rest : List ℕ) (c : ℕ) → scan_uchar letter text ≡ Some (c, rest) → BeginsWithUchar letter text c rest
+unfolding scan_uchar
+scan_uchar-some letter text rest c e =
     option_and_then_some _ (uchar_number letter text) (c, rest) e (λ found found_is e.
     let (scalar, same) = cond_some (is_scalar found.0) found (c, rest) e in
     let number : found.0 ≡ c = ap (λ (p : ℕ × List ℕ). p.0) same in
@@ -134,6 +141,7 @@ read_uchar-some letter text rest c e =
       split = begins.split ∙ ap (λ xs. begins.digits ++ xs) end;
     })
 
+-- as many digits as the letter says are taken
 uchar_number-again : (letter : ℕ) (digits rest : List ℕ) → uchar_length letter ≡ Some (length digits) → list_all is_hex digits ≡ true → uchar_number letter (digits ++ rest) ≡ Some (hex_number digits, rest)
 unfolding uchar_number uchar_length
 uchar_number-again letter digits rest count hex =
@@ -146,19 +154,21 @@ uchar_number-again letter digits rest count hex =
           ] h
     ] count
 
-pub read_uchar-again : (text rest : List ℕ) (c : ℕ) → (is : IsUchar text c) → read_uchar is.letter (is.digits ++ rest) ≡ Some (c, rest)
-unfolding read_uchar
-read_uchar-again text rest c is =
+-- each UCHAR is taken
+pub scan_uchar-again : (text rest : List ℕ) (c : ℕ) → (is : IsUchar text c) → scan_uchar is.letter (is.digits ++ rest) ≡ Some (c, rest)
+unfolding scan_uchar
+scan_uchar-again text rest c is =
     let scalar : is_scalar (hex_number is.digits) ≡ true = ap is_scalar (sym is.number) ∙ is.scalar in
     rw (uchar_number-again is.letter is.digits rest is.count is.hex, scalar, is.number) refl
 
 -- a number that is no character is refused
-pub scalar_is_read : (letter number c : ℕ) (text rest : List ℕ) → Some (number, rest) ≡ uchar_number letter text → scalar number ≡ true → c ≡ number → ◌≡◌ {A = Option (ℕ × List ℕ)} (Some (c, rest)) (read_uchar letter text)
-unfolding read_uchar
+pub scalar_is_read : (letter number c : ℕ) (text rest : List ℕ) → Some (number, rest) ≡ uchar_number letter text → scalar number ≡ true → c ≡ number → ◌≡◌ {A = Option (ℕ × List ℕ)} (Some (c, rest)) (scan_uchar letter text)
+unfolding scan_uchar
 scalar_is_read letter number c text rest found is same = rw (← found, is_scalar-scalar number, is, same) refl
 
-pub no_scalar_is_refused : (letter number : ℕ) (text rest : List ℕ) → Some (number, rest) ≡ uchar_number letter text → (scalar number ≡ true → ⊥) → None ≡ read_uchar letter text
-unfolding read_uchar
+-- a number that is no character is refused
+pub no_scalar_is_refused : (letter number : ℕ) (text rest : List ℕ) → Some (number, rest) ≡ uchar_number letter text → (scalar number ≡ true → ⊥) → None ≡ scan_uchar letter text
+unfolding scan_uchar
 no_scalar_is_refused letter number text rest found no_scalar =
     rw (← found, is_scalar-scalar number)
     (elim (scalar number) as (λ b. (b ≡ true → ⊥) → ◌≡◌ {A = Option (ℕ × List ℕ)} None (if b then Some (number, rest) else None)) [

@@ -1,13 +1,18 @@
 -- Reading a repetition piece by piece, with what the pieces stand for.
-use Rattle.std.proofs.Common.{◌≡◌, ℕ, zero, suc, ◌≤◌, Option, Some, None, List, [], ◌∷◌, ◌++◌, length, refl, ap, ◌∙◌, sym, arith, append_assoc, append-nil, length-append}
+use Rattle.std.proofs.Common.{◌≡◌, ℕ, zero, suc, ◌<◌, ◌≤◌, Option, Some, None, List, [], ◌∷◌, ◌++◌, length, refl, ap, ◌∙◌, sym, arith, append_assoc, append-nil, length-append, Bor}
 use Rattle.std.proofs.lemmas.List.{nil_from_length}
 use Rattle.std.specs.Prelude.{IfSome, IfNone}
-use Rattle.std.proofs.Common.{Bor}
 use Rattle.std.specs.Str.{chars}
-use Rattle.bm_term.specs.Text.{FollowsLongest, BeginsWithNone}
+use Rattle.rdf_text.specs.Text.{FollowsLongest, BeginsWithNone}
 use Rattle.std.specs.Option.{option_map, option_map_or}
-use Rattle.bm_term.specs.Repetition.{Star}
-use Rattle.rdf_escapes.specs.Pieces.{Step, IsOf, BeginsWith, ArePieces, with_first, pieces_up_to, pieces, values, after_values, GoesForward}
+use Rattle.rdf_text.specs.Repetition.{Star}
+use Rattle.rdf_text.specs.Text.{IsOf, BeginsWith}
+use Rattle.rdf_text.specs.Repetition.{ArePieces}
+use Rattle.rdf_escapes.specs.scanning.Pieces.{Step, with_first, pieces_up_to, pieces, values, after_values}
+
+-- a step goes forward
+abbrev pub GoesForward : Step → Type 0
+GoesForward step = (text rest : List ℕ) (c : ℕ) → step text ≡ Some (c, rest) → length rest < length text
 
 -- what a step takes is a piece of the rule
 abbrev pub PassesPieces : Step → (List ℕ → ℕ → Type 0) → Type 0
@@ -47,21 +52,27 @@ module _ (step : Step) (forward : GoesForward step) where
         | Some first ↦ λ e. let less = forward text first.1 first.0 e in ap (with_first first.0) (pieces_up_to-enough (length text) (length first.1) first.1 (omega arith) (omega arith))
       ] refl
 
+  -- one piece in front, and the others
   pub pieces-more : (text rest : List ℕ) (c : ℕ) → step text ≡ Some (c, rest) → pieces step text ≡ with_first c (pieces step rest)
   pieces-more text rest c e = rw (pieces-step text, e) refl
 
+  -- where no piece is in front, there are none
   pub pieces-none : (text : List ℕ) → step text ≡ None → pieces step text ≡ ([], text)
   pieces-none text e = rw (pieces-step text, e) refl
 
+  -- the first value, and the others
   pub values-more : (text rest : List ℕ) (c : ℕ) → step text ≡ Some (c, rest) → values step text ≡ c ∷ values step rest
   values-more text rest c e = ap (λ (found : List ℕ × List ℕ). found.0) (pieces-more text rest c e)
 
+  -- after one piece the others follow
   pub after_values-more : (text rest : List ℕ) (c : ℕ) → step text ≡ Some (c, rest) → after_values step text ≡ after_values step rest
   after_values-more text rest c e = ap (λ (found : List ℕ × List ℕ). found.1) (pieces-more text rest c e)
 
+  -- no piece has no value
   pub values-none : (text : List ℕ) → step text ≡ None → values step text ≡ []
   values-none text e = ap (λ (found : List ℕ × List ℕ). found.0) (pieces-none text e)
 
+  -- where no piece is in front, nothing is passed
   pub after_values-none : (text : List ℕ) → step text ≡ None → after_values step text ≡ text
   after_values-none text e = ap (λ (found : List ℕ × List ℕ). found.1) (pieces-none text e)
 
@@ -70,9 +81,11 @@ module _ (step : Step) (forward : GoesForward step) where
     abbrev pub SplitsInPieces : List ℕ → Type 0
     SplitsInPieces text = (front : List ℕ) × Star P front (values step text) × (text ≡ front ++ after_values step text)
 
+    -- where no piece is in front, the text is its rest
     splits-none : (text : List ℕ) → step text ≡ None → SplitsInPieces text
     splits-none text e = rw (values-none text e, after_values-none text e) ([], refl, refl)
 
+    -- one piece more in front
     splits-more : (text rest : List ℕ) (c : ℕ) → PassesPieces step P → step text ≡ Some (c, rest) → SplitsInPieces rest → SplitsInPieces text
     splits-more text rest c passes e (others, star, splits) =
         let (front, piece, split) = passes text rest c e in
@@ -82,6 +95,7 @@ module _ (step : Step) (forward : GoesForward step) where
           split ∙ ap (λ xs. front ++ xs) splits ∙ sym (append_assoc front others (after_values step rest)),
         )
 
+    -- so up to n characters
     splits_up_to : PassesPieces step P → (n : ℕ) (text : List ℕ) → length text ≤ n → SplitsInPieces text
     splits_up_to passes zero text small =
         elim (step text) as (λ r. step text ≡ r → SplitsInPieces text) [
@@ -96,6 +110,7 @@ module _ (step : Step) (forward : GoesForward step) where
               splits-more text first.1 first.0 passes e (splits_up_to passes n first.1 (omega arith))
         ] refl
 
+    -- each text is pieces and a rest
     pub splits : PassesPieces step P → (text : List ℕ) → SplitsInPieces text
     splits passes text = splits_up_to passes (length text) text (omega arith)
 
@@ -139,10 +154,12 @@ module _ (step : Step) (forward : GoesForward step) where
     abbrev pub seen : Option (ℕ × Bor (List ℕ)) → Option (ℕ × List ℕ)
     seen result = option_map (λ p. (p.0, chars p.1.now)) result
 
+    -- what a step finds, the text begins with
     pub result_found : PassesPieces step P → (text : List ℕ) (result : Option (ℕ × Bor (List ℕ))) → seen result ≡ step text → IfSome result (λ p. BeginsWith P text p.0 (chars p.1.now))
     result_found passes text None e = tt
     result_found passes text (Some p) e = passes text (chars p.1.now) p.0 (sym e)
 
+    -- where a step finds nothing, the text begins with none
     pub result_none : PassesOver step P → (text : List ℕ) (result : Option (ℕ × Bor (List ℕ))) → seen result ≡ step text → IfNone result (BeginsWithNone (IsOf P) text)
     result_none over text None e = λ front rest (v, is) split. let found = over front rest v is in absurd (cc)
     result_none over text (Some p) e = tt

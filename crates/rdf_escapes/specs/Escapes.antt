@@ -3,15 +3,9 @@
 use Rattle.std.specs.Prelude.{◌≡◌, ℕ, ◌+◌, ◌-◌, ◌*◌, ◌==◌, if◌then◌else◌, IsTrue, Option, Some, None, List, [], ◌∷◌, length, fold}
 use Rattle.std.specs.Int.{is_in_range}
 use Rattle.std.specs.List.{list_all}
-use Rattle.bm_term.specs.Classes.{is_scalar, is_digit, is_hex}
-use Rattle.bm_term.specs.Escapes.{echar_value}
-use Rattle.bm_term.specs.Marks.{backslash}
-
-abbrev pub letter_u : ℕ
-letter_u = 0x75
-
-abbrev pub capital_u : ℕ
-capital_u = 0x55
+use Rattle.rdf_text.specs.Classes.{is_scalar, is_digit, is_hex}
+use Rattle.rdf_text.specs.Spelling.{echar_value}
+use Rattle.rdf_text.specs.Marks.{backslash, letter_u, capital_u}
 
 -- ECHAR ::= '\' [tbnrf"'\]: the text stands for the character
 abbrev pub IsEchar : List ℕ → ℕ → Type 0

@@ -1,5 +1,4 @@
 pub mod Escapes
 pub mod Iris
-pub mod Pieces
-pub mod Reading
 pub mod Strings
+pub mod scanning

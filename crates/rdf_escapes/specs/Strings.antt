@@ -3,9 +3,9 @@
 -- a number stands for a character of the string, as one in an IRI does for one of the IRI. Section 19.2 of SPARQL replaces
 -- such escapes before tokens are read: there "\u005Cn" is a line feed, and here a backslash and an n.
 use Rattle.std.specs.Prelude.{◌≡◌, ℕ, Bool, ◌&&◌, ◌||◌, ◌==◌, not, ◌⊎◌, IsTrue, List, [], ◌∷◌, ◌++◌}
-use Rattle.bm_term.specs.Marks.{line_feed, carriage_return, quotation_mark, apostrophe, backslash}
-use Rattle.bm_term.specs.Classes.{is_scalar}
-use Rattle.bm_term.specs.Repetition.{Star}
+use Rattle.rdf_text.specs.Marks.{line_feed, carriage_return, quotation_mark, apostrophe, backslash}
+use Rattle.rdf_text.specs.Classes.{is_scalar}
+use Rattle.rdf_text.specs.Repetition.{Star}
 use Rattle.rdf_escapes.specs.Escapes.{IsEchar, IsUchar}
 
 -- '"' | "'"

@@ -1,15 +1,15 @@
-// Escapes, behind their backslash.
+//! Escapes, after their backslash.
 ghost use Rattle.std.specs.Prelude.{◌≡◌, ◌<◌, ◌^◌, ◌==◌, Option, Some, None, if◌then◌else◌, IfSome};
 ghost use Rattle.std.specs.Option.{option_map};
 ghost use Rattle.std.specs.Str.{chars, IsUtf8};
-ghost use Rattle.bm_term.specs.Classes.{is_hex};
+ghost use Rattle.rdf_text.specs.Classes.{is_hex};
 ghost use Rattle.rdf_escapes.specs.Escapes.{hex_value};
-ghost use Rattle.rdf_escapes.specs.Reading.{hex_digit, four_digits, eight_digits, uchar_number, read_uchar, read_escape};
+ghost use Rattle.rdf_escapes.specs.scanning.Escapes.{hex_digit, four_digits, eight_digits, uchar_number, scan_uchar, scan_escape};
 
-use bm_term::{echar_value, split_char};
+use rdf_text::{echar_value, split_char};
 
-// HEX: the value of a digit.
-#[tactic(auto, unfolding(crate::specs::Escapes::hex_value, bm_term::specs::Classes::is_hex, bm_term::specs::Classes::is_digit))]
+/// HEX: the value of a digit.
+#[tactic(auto, unfolding(crate::specs::Escapes::hex_value, rdf_text::specs::Classes::is_hex, rdf_text::specs::Classes::is_digit))]
 fn hex_value(c: char) -> Option<u32>
     ensures value { result ≡ (if is_hex c then Some (hex_value c) else None) }
     ensures bound { IfSome result (λ value. value < 16) }
@@ -22,8 +22,8 @@ fn hex_value(c: char) -> Option<u32>
     }
 }
 
-// The value of a digit in front, and the text after it.
-#[tactic(auto, unfolding(crate::specs::Reading::hex_digit))]
+/// The value of a digit in front, and the text after it.
+#[tactic(auto, unfolding(crate::specs::scanning::Escapes::hex_digit))]
 fn hex_digit(text: &str) -> Option<(u32, &str)>
     ensures chars { option_map (λ p. (p.0, chars p.1.now)) result ≡ hex_digit (chars text.now) }
     ensures utf8 { IfSome result (λ p. IsUtf8 p.1.now) }
@@ -34,8 +34,8 @@ fn hex_digit(text: &str) -> Option<(u32, &str)>
     Some((value, rest))
 }
 
-// HEX HEX HEX HEX: the number that the digits spell.
-#[tactic(auto, unfolding(crate::specs::Reading::four_digits))]
+/// HEX HEX HEX HEX: the number that the digits spell.
+#[tactic(auto, unfolding(crate::specs::scanning::Escapes::four_digits))]
 fn four_digits(text: &str) -> Option<(u32, &str)>
     ensures chars { option_map (λ p. (p.0, chars p.1.now)) result ≡ four_digits (chars text.now) }
     ensures utf8 { IfSome result (λ p. IsUtf8 p.1.now) }
@@ -48,7 +48,7 @@ fn four_digits(text: &str) -> Option<(u32, &str)>
     Some((4096 * a + 256 * b + 16 * c + d, rest))
 }
 
-#[tactic(auto, unfolding(crate::specs::Reading::eight_digits))]
+#[tactic(auto, unfolding(crate::specs::scanning::Escapes::eight_digits))]
 fn eight_digits(text: &str) -> Option<(u32, &str)>
     ensures chars { option_map (λ p. (p.0, chars p.1.now)) result ≡ eight_digits (chars text.now) }
     ensures utf8 { IfSome result (λ p. IsUtf8 p.1.now) }
@@ -58,8 +58,8 @@ fn eight_digits(text: &str) -> Option<(u32, &str)>
     Some((65536 * high + low, rest))
 }
 
-// The number of a UCHAR, behind its backslash and this letter.
-#[tactic(auto, unfolding(crate::specs::Reading::uchar_number))]
+/// The number of a UCHAR, after its backslash and this letter.
+#[tactic(auto, unfolding(crate::specs::scanning::Escapes::uchar_number))]
 fn uchar_number(letter: char, text: &str) -> Option<(u32, &str)>
     ensures chars { option_map (λ p. (p.0, chars p.1.now)) result ≡ uchar_number letter (chars text.now) }
     ensures utf8 { IfSome result (λ p. IsUtf8 p.1.now) }
@@ -71,11 +71,11 @@ fn uchar_number(letter: char, text: &str) -> Option<(u32, &str)>
     }
 }
 
-/// `UCHAR`, behind its backslash and this letter: the character, and the text after it. `None` where no
+/// `UCHAR`, after its backslash and this letter: the character, and the text after it. `None` where no
 /// such escape stands there, or where its number is no character.
-#[tactic(auto, unfolding(crate::specs::Reading::read_uchar))]
-pub fn uchar(letter: char, text: &str) -> Option<(char, &str)>
-    ensures chars { option_map (λ p. (p.0, chars p.1.now)) result ≡ read_uchar letter (chars text.now) }
+#[tactic(auto, unfolding(crate::specs::scanning::Escapes::scan_uchar))]
+pub(crate) fn uchar(letter: char, text: &str) -> Option<(char, &str)>
+    ensures chars { option_map (λ p. (p.0, chars p.1.now)) result ≡ scan_uchar letter (chars text.now) }
     ensures utf8 { IfSome result (λ p. IsUtf8 p.1.now) }
 {
     let (number, rest) = uchar_number(letter, text)?;
@@ -83,11 +83,11 @@ pub fn uchar(letter: char, text: &str) -> Option<(char, &str)>
     Some((c, rest))
 }
 
-/// `ECHAR | UCHAR`, behind the backslash: the character, and the text after it. `None` where no such
+/// `ECHAR | UCHAR`, after the backslash: the character, and the text after it. `None` where no such
 /// escape stands there.
-#[tactic(auto, unfolding(crate::specs::Reading::read_escape))]
-pub fn escape(text: &str) -> Option<(char, &str)>
-    ensures chars { option_map (λ p. (p.0, chars p.1.now)) result ≡ read_escape (chars text.now) }
+#[tactic(auto, unfolding(crate::specs::scanning::Escapes::scan_escape))]
+pub(crate) fn escape(text: &str) -> Option<(char, &str)>
+    ensures chars { option_map (λ p. (p.0, chars p.1.now)) result ≡ scan_escape (chars text.now) }
     ensures utf8 { IfSome result (λ p. IsUtf8 p.1.now) }
 {
     let (letter, rest) = split_char(text)?;

@@ -1,17 +1,18 @@
-// The characters of an IRI between its brackets.
+//! The characters of an IRI between its brackets.
 ghost use Rattle.std.specs.Prelude.{◌≡◌, ◌==◌, IfSome, IfNone};
 ghost use Rattle.std.specs.Option.{option_map};
 ghost use Rattle.std.specs.Str.{chars, IsUtf8};
-ghost use Rattle.bm_term.specs.Text.{BeginsWithNone, FollowsLongest};
+ghost use Rattle.rdf_text.specs.Text.{BeginsWithNone, FollowsLongest, IsOf, BeginsWith};
 ghost use Rattle.rdf_escapes.specs.Iris.{IsIriPiece};
-ghost use Rattle.rdf_escapes.specs.Pieces.{IsOf, BeginsWith, ArePieces, after_values};
-ghost use Rattle.rdf_escapes.specs.Reading.{escaped_irichar, iri_piece};
+ghost use Rattle.rdf_text.specs.Repetition.{ArePieces};
+ghost use Rattle.rdf_escapes.specs.scanning.Pieces.{after_values};
+ghost use Rattle.rdf_escapes.specs.scanning.Iris.{escaped_irichar, iri_piece};
 
 use crate::escapes::uchar;
-use bm_term::{is_irichar, split_char};
+use rdf_text::{is_irichar, split_char};
 
-// UCHAR in an IRI, behind its backslash: it gives a member of IRICHAR.
-#[tactic(auto, unfolding(crate::specs::Reading::escaped_irichar))]
+/// UCHAR in an IRI, after its backslash: it gives a member of IRICHAR.
+#[tactic(auto, unfolding(crate::specs::scanning::Iris::escaped_irichar))]
 fn escaped_irichar(text: &str) -> Option<(char, &str)>
     ensures chars { option_map (λ p. (p.0, chars p.1.now)) result ≡ escaped_irichar (chars text.now) }
     ensures utf8 { IfSome result (λ p. IsUtf8 p.1.now) }
@@ -33,11 +34,11 @@ pub fn iri_piece(text: &str) -> Option<(char, &str)>
     ensures chars { option_map (λ p. (p.0, chars p.1.now)) result ≡ iri_piece (chars text.now) }
     ensures utf8 { IfSome result (λ p. IsUtf8 p.1.now) }
 {
-    read_iri_piece(text)
+    scan_iri_piece(text)
 }
 
-#[tactic(auto, unfolding(crate::specs::Reading::iri_piece))]
-fn read_iri_piece(text: &str) -> Option<(char, &str)>
+#[tactic(auto, unfolding(crate::specs::scanning::Iris::iri_piece))]
+fn scan_iri_piece(text: &str) -> Option<(char, &str)>
     ensures chars { option_map (λ p. (p.0, chars p.1.now)) result ≡ iri_piece (chars text.now) }
     ensures utf8 { IfSome result (λ p. IsUtf8 p.1.now) }
 {
@@ -61,7 +62,7 @@ fn skip_iri_pieces(text: &str) -> &str
     ensures { chars result.now ≡ after_values iri_piece (chars text.now) }
 {
     let mut rest = text;
-    while let Some((_, after)) = read_iri_piece(rest) {
+    while let Some((_, after)) = scan_iri_piece(rest) {
         rest = after;
     }
     rest

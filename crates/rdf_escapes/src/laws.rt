@@ -1,12 +1,14 @@
-// Laws of IRIs and of strings: what is read is what is spelled, whatever follows it.
+//! Laws of IRIs and of strings: what is read is what is spelled, whatever follows it.
 ghost use Rattle.std.specs.Prelude.{◌≡◌, ℕ, Some, List, ◌++◌, IsTrue};
 ghost use Rattle.rdf_escapes.specs.Iris.{IsIriPiece, IsIriRef};
 ghost use Rattle.rdf_escapes.specs.Strings.{is_quote, IsStringPiece, IsString};
 ghost use Rattle.std.specs.List.{list_all};
 ghost use Rattle.std.specs.Str.{all_scalars};
-ghost use Rattle.bm_term.specs.Classes.{is_irichar};
-ghost use Rattle.rdf_escapes.specs.Pieces.{BeginsWith, values};
-ghost use Rattle.rdf_escapes.specs.Reading.{iri_piece, string_piece, read_iri_ref, read_string};
+ghost use Rattle.rdf_text.specs.Classes.{is_irichar};
+ghost use Rattle.rdf_text.specs.Text.{BeginsWith};
+ghost use Rattle.rdf_escapes.specs.scanning.Pieces.{values};
+ghost use Rattle.rdf_escapes.specs.scanning.Iris.{iri_piece, scan_iri_ref};
+ghost use Rattle.rdf_escapes.specs.scanning.Strings.{string_piece, scan_string};
 
 /// A character of an IRI and one of a string are read where they stand, whatever follows them.
 pub fn characters_are_read()
@@ -17,8 +19,8 @@ pub fn characters_are_read()
 
 /// What is read as an IRI in brackets is one, and each is read, whatever follows it.
 pub fn iris_are_read_as_spelled()
-    ensures found { (text rest iri : List ℕ) → read_iri_ref text ≡ Some (iri, rest) → BeginsWith IsIriRef text iri rest }
-    ensures only { (text rest iri : List ℕ) → IsIriRef text iri → read_iri_ref (text ++ rest) ≡ Some (iri, rest) }
+    ensures found { (text rest iri : List ℕ) → scan_iri_ref text ≡ Some (iri, rest) → BeginsWith IsIriRef text iri rest }
+    ensures only { (text rest iri : List ℕ) → IsIriRef text iri → scan_iri_ref (text ++ rest) ≡ Some (iri, rest) }
 {}
 
 /// A text in brackets spells one IRI at most.
@@ -30,9 +32,9 @@ pub fn a_text_spells_one_iri()
 /// whatever follows it.
 pub fn strings_are_read_as_spelled()
     ensures found { (mark : ℕ) (text rest lexical : List ℕ) →
-        read_string mark text ≡ Some (lexical, rest) → BeginsWith (IsString mark) text lexical rest }
+        scan_string mark text ≡ Some (lexical, rest) → BeginsWith (IsString mark) text lexical rest }
     ensures only { (mark : ℕ) (text rest lexical : List ℕ) → IsTrue (is_quote mark) → IsString mark text lexical →
-        read_string mark (text ++ rest) ≡ Some (lexical, rest) }
+        scan_string mark (text ++ rest) ≡ Some (lexical, rest) }
 {}
 
 /// A text between such marks spells one lexical form at most.

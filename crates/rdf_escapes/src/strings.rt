@@ -1,16 +1,17 @@
-// The characters of a string between its marks.
+//! The characters of a string between its marks.
 ghost use Rattle.std.specs.Prelude.{◌≡◌, ◌==◌, IfSome, IfNone};
 ghost use Rattle.std.specs.Option.{option_map};
 ghost use Rattle.std.specs.Str.{chars, IsUtf8};
-ghost use Rattle.bm_term.specs.Text.{BeginsWithNone, FollowsLongest};
+ghost use Rattle.rdf_text.specs.Text.{BeginsWithNone, FollowsLongest, IsOf, BeginsWith};
 ghost use Rattle.rdf_escapes.specs.Strings.{is_string_char, IsStringPiece};
-ghost use Rattle.rdf_escapes.specs.Pieces.{IsOf, BeginsWith, ArePieces, after_values};
-ghost use Rattle.rdf_escapes.specs.Reading.{string_piece};
+ghost use Rattle.rdf_text.specs.Repetition.{ArePieces};
+ghost use Rattle.rdf_escapes.specs.scanning.Pieces.{after_values};
+ghost use Rattle.rdf_escapes.specs.scanning.Strings.{string_piece};
 
 use crate::escapes::escape;
-use bm_term::split_char;
+use rdf_text::split_char;
 
-// Every character but the mark, the backslash, LF and CR.
+/// Every character but the mark, the backslash, LF and CR.
 #[tactic(auto, unfolding(crate::specs::Strings::is_string_char))]
 fn is_string_char(mark: char, c: char) -> bool
     ensures { result ≡ is_string_char mark c }
@@ -29,11 +30,11 @@ pub fn string_piece(mark: char, text: &str) -> Option<(char, &str)>
     ensures chars { option_map (λ p. (p.0, chars p.1.now)) result ≡ string_piece mark (chars text.now) }
     ensures utf8 { IfSome result (λ p. IsUtf8 p.1.now) }
 {
-    read_string_piece(mark, text)
+    scan_string_piece(mark, text)
 }
 
-#[tactic(auto, unfolding(crate::specs::Reading::string_piece))]
-fn read_string_piece(mark: char, text: &str) -> Option<(char, &str)>
+#[tactic(auto, unfolding(crate::specs::scanning::Strings::string_piece))]
+fn scan_string_piece(mark: char, text: &str) -> Option<(char, &str)>
     ensures chars { option_map (λ p. (p.0, chars p.1.now)) result ≡ string_piece mark (chars text.now) }
     ensures utf8 { IfSome result (λ p. IsUtf8 p.1.now) }
 {
@@ -57,7 +58,7 @@ fn skip_string_pieces(mark: char, text: &str) -> &str
     ensures { chars result.now ≡ after_values (string_piece mark) (chars text.now) }
 {
     let mut rest = text;
-    while let Some((_, after)) = read_string_piece(mark, rest) {
+    while let Some((_, after)) = scan_string_piece(mark, rest) {
         rest = after;
     }
     rest

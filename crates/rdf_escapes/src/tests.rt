@@ -1,8 +1,8 @@
 use super::*;
 use std::test::Fail;
 
-// Texts, the character that is read in front of each, and how many bytes are left behind it; a `-`
-// where none stands there. The first list is of IRIs, the second of strings between quotation marks.
+/// Texts, the character that is read in front of each, and how many bytes are left after it; a `-`
+/// where none stands there. The first list is of IRIs, the second of strings between quotation marks.
 const IN_IRIS: &[(&str, Option<char>, usize)] = &[
     ("ab", Some('a'), 1),
     ("", None, 0),

@@ -1,14 +1,15 @@
-// What the characters of an IRI and of a string stand for, written as canonical terms have it.
+//! What the characters of an IRI and of a string stand for, written as canonical terms have it.
 ghost use Rattle.std.specs.Prelude.{◌≡◌, ◌++◌, OnOk, OnErr, string_bytes};
 ghost use Rattle.std.specs.Str.{chars, encode_utf8_all};
-ghost use Rattle.bm_term.specs.Canonical.{escaped};
-ghost use Rattle.bm_term.specs.Text.{HasFront};
-ghost use Rattle.rdf_escapes.specs.Pieces.{values};
-ghost use Rattle.rdf_escapes.specs.Reading.{iri_piece, string_piece};
+ghost use Rattle.rdf_text.specs.Spelling.{escaped};
+ghost use Rattle.rdf_text.specs.Text.{HasFront};
+ghost use Rattle.rdf_escapes.specs.scanning.Pieces.{values};
+ghost use Rattle.rdf_escapes.specs.scanning.Iris.{iri_piece};
+ghost use Rattle.rdf_escapes.specs.scanning.Strings.{string_piece};
 
 use crate::iris::iri_piece;
 use crate::strings::string_piece;
-use bm_term::push_spelling;
+use rdf_text::push_spelling;
 use std::alloc::AllocError;
 
 /// Writes the characters of an IRI with which a text begins, their escapes undone. Where memory runs

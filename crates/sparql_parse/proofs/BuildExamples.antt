@@ -2,9 +2,8 @@
 use Rattle.std.proofs.Common.{◌≡◌, [], ◌∷◌, map, refl}
 use Rattle.query_tokens.specs.Token.{Lexeme}
 use Rattle.query_grammar.specs.Tree.{Node, TypeNode, Same, NoParts, OptionalPart, NestedPart}
-use Rattle.alg_model.specs.Pattern.{Bgp, Join, LeftJoin}
-use Rattle.alg_model.specs.Limits.{triple_patterns}
-use Rattle.sparql_parse.specs.Meaning.{Scope, each_first, pattern_of}
+use Rattle.alg_model.specs.Pattern.{Bgp, Join, LeftJoin, triple_patterns}
+use Rattle.sparql_parse.specs.computed.Meaning.{Scope, each_first, pattern_of}
 
 abbrev nothing : Scope
 nothing = record { names = []; namespaces = [] }

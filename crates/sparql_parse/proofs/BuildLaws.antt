@@ -9,9 +9,9 @@ use Rattle.query_grammar.specs.Tree.{Syntax}
 use Rattle.alg_model.specs.Pattern.{Algebra, algebra_of}
 use Rattle.sparql_parse.specs.declared.build.ReadToken.{ReadToken}
 use Rattle.sparql_parse.specs.declared.build.Translation.{Translation}
-use Rattle.sparql_parse.specs.Meaning.{Scope, columns_of}
-use Rattle.sparql_parse.specs.Building.{State, IsBuilt, built, step, columns_behind}
-use Rattle.sparql_parse.specs.Builds.{IsTranslation, labelled_in}
+use Rattle.sparql_parse.specs.computed.Meaning.{Scope, columns_of}
+use Rattle.sparql_parse.specs.computed.Building.{State, IsBuilt, built, step, columns_after}
+use Rattle.sparql_parse.specs.held.Builds.{IsTranslation, labelled_in}
 
 -- one token more
 pub built-more : (scope : Scope) (s e : State) (xs : List ReadToken) (i : ℕ) (d : ReadToken) → i < length xs → e ≡ built scope s (take i (map labelled_in xs)) →
@@ -29,7 +29,7 @@ built-more scope s e xs i d within before =
 -- what is built at the end
 pub translated : {E : Type 0} (scope : Scope) (tree : Syntax) (s : State) (result : Result Translation E) → IsBuilt scope tree s →
     IfOk result (λ t. algebra_of t.pattern ≡ s.body.whole) →
-    IfOk result (λ t. map (λ column. column.0) t.columns ≡ columns_behind s.body.whole s.head) →
+    IfOk result (λ t. map (λ column. column.0) t.columns ≡ columns_after s.body.whole s.head) →
     IfOk result (λ t. t.distinct ≡ s.head.distinct) →
     IfOk result (IsTranslation scope tree)
 translated scope tree s (Ok t) built pattern columns distinct =

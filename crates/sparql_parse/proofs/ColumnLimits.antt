@@ -17,8 +17,8 @@ use Rattle.query_grammar.specs.Tree.{Declaration, Columns, AllColumns, Variables
 use Rattle.query_grammar.specs.Grammar.{IsQuery, Spelling, Token, AreColumns, IsDistinct, IsPrologue, SpellsQuery}
 use Rattle.alg_model.specs.declared.var.Var.{Var}
 use Rattle.alg_model.specs.Pattern.{Algebra, vars_of}
-use Rattle.query_values.specs.Values.{name_of}
-use Rattle.sparql_parse.specs.Meaning.{Scope, number_of, with_number, pattern_of, columns_of}
+use Rattle.query_values.specs.reading.Values.{name_of}
+use Rattle.sparql_parse.specs.computed.Meaning.{Scope, number_of, with_number, pattern_of, columns_of}
 use Rattle.sparql_parse.proofs.QueryLimits.{fold-below}
 use Rattle.sparql_parse.proofs.VarLaws.{AreBelow, AreFine, number_of-below, pattern-vars}
 

@@ -9,8 +9,8 @@ use Rattle.query_grammar.specs.Roles.{Labelled, count_of}
 use Rattle.query_grammar.specs.Tree.{Node}
 use Rattle.query_grammar.proofs.Counts.{one_if, count-cons}
 use Rattle.sparql_parse.specs.Faults.{is_object}
-use Rattle.sparql_parse.specs.Meaning.{Scope}
-use Rattle.sparql_parse.specs.Building.{State, Body, OpenGroup, step, in_role, built, with_object, body_of, closed, closed_groups, amended, waiting, next_settled}
+use Rattle.sparql_parse.specs.computed.Meaning.{Scope}
+use Rattle.sparql_parse.specs.computed.Building.{State, Body, OpenGroup, step, in_role, built, with_object, body_of, closed, closed_groups, amended, waiting, next_settled}
 
 pub with_object-next : (scope : Scope) (subject verb : Node) (body : Body) (object : Option Node) → (with_object scope subject verb body object).next ≡ body.next + waiting object
 with_object-next scope subject verb body None = omega arith
@@ -35,8 +35,8 @@ in_role-next scope s roles.Close terminal token = omega (arith, with_object-next
 in_role-next scope s roles.Subject terminal token = omega (arith, with_object-next scope s.subject s.verb s.body s.object)
 in_role-next scope s roles.Verb terminal token = omega (arith, with_object-next scope s.subject s.verb s.body s.object)
 in_role-next scope s roles.Object terminal token = omega (arith, with_object-next scope s.subject s.verb s.body s.object)
-in_role-next scope s roles.Tag terminal token = omega (arith, amended-next (Rattle.sparql_parse.specs.Building.with_tag terminal token) s s.object refl)
-in_role-next scope s roles.Datatype terminal token = omega (arith, amended-next (Rattle.sparql_parse.specs.Building.with_datatype terminal token) s s.object refl)
+in_role-next scope s roles.Tag terminal token = omega (arith, amended-next (Rattle.sparql_parse.specs.computed.Building.with_tag terminal token) s s.object refl)
+in_role-next scope s roles.Datatype terminal token = omega (arith, amended-next (Rattle.sparql_parse.specs.computed.Building.with_datatype terminal token) s s.object refl)
 in_role-next scope s roles.Keyword terminal token = omega arith
 in_role-next scope s roles.Declared terminal token = omega arith
 in_role-next scope s roles.Namespace terminal token = omega arith

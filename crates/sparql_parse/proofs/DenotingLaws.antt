@@ -1,243 +1,341 @@
--- What is read of a text is what it denotes, or its fault.
-use Rattle.std.proofs.Common.{◌≡◌, ◌≢◌, ◌⊎◌, inl, inr, ℕ, suc, ◌<◌, true, false, List, [], ◌∷◌, ◌++◌, length, take, ◌+◌, Option, Some, None, Result, Ok, Err, refl, sym, ap, subst, ◌∙◌, arith, append-nil, true≢false}
-use Rattle.std.proofs.lemmas.Str.{IsUtf8-from_is_utf8, is_utf8-from_IsUtf8, utf8_valid_len-IsValidUpTo}
-use Rattle.std.proofs.lemmas.List.{length-map, length-append}
-use Rattle.std.proofs.Math.Seq.{take-append_seam, take-append-add}
+-- What is read of a text is what it denotes, or its fault: what the tokens stand for is what is computed of them.
+use Rattle.std.proofs.Common.{◌≡◌, ◌≢◌, ◌⊎◌, inl, inr, ℕ, Bool, true, false, ◌||◌, ◌==◌, cond, All, List, [], ◌∷◌, ◌++◌, map, fold, Option, Some, None, Result, Ok, Err, refl, sym, ap, subst, ◌∙◌, append_assoc, append-nil, arith, ◌&&◌, if◌then◌else◌}
 use Rattle.std.specs.Prelude.{IfOk, IfErr, MatchResult}
-use Rattle.std.specs.Str.{IsUtf8, is_utf8}
-use Rattle.std.specs.Str.Lossy.{utf8_valid_len}
+use Rattle.std.specs.List.{list_any}
+use Rattle.std.specs.Option.{is_some, is_none}
+use Rattle.std.specs.Str.{IsUtf8}
+use Rattle.std.proofs.lemmas.List.Folds.{list_any-append}
+use Rattle.std.proofs.lemmas.List.Elements.{All-nil, All-cons, All-tail}
+use Rattle.std.proofs.lemmas.Slice.Eq.{bytes_eq-Decides}
 use Rattle.query_tokens.specs.Token.{Lexeme}
-use Rattle.query_grammar.specs.declared.expect.Expect.TheVariants as expects
+use Rattle.query_tokens.specs.Tokens.{AreTokens}
+use Rattle.query_tokens.specs.declared.token.TokenKind.TheVariants as kinds
 use Rattle.query_grammar.specs.declared.expect.State.{State}
-use Rattle.query_grammar.specs.declared.expect.Step.{Step}
+use Rattle.query_grammar.specs.declared.terminal.Terminal.{Terminal}
+use Rattle.query_grammar.specs.declared.terminal.Terminal.TheVariants as terminals
+use Rattle.query_grammar.specs.declared.syntax.Role.TheVariants as roles
 use Rattle.query_grammar.specs.Terminals.{terminal_of}
-use Rattle.query_grammar.specs.Words.{unsupported_word}
-use Rattle.query_grammar.specs.Roles.{Labelled, with_role, tokens_of}
-use Rattle.query_grammar.specs.Expecting.{start, ended, next_step, Reading, read_tokens, StopsAt}
-use Rattle.query_grammar.proofs.Carrying.{Reads, step_of}
-use Rattle.query_grammar.proofs.Runs.{reads-run, run-reads, read-last, read-last-none, reads-split}
-use Rattle.query_grammar.proofs.GrammarLaws.{IsReadToEnd-query, query-run, HasFaultAt-StopsAt, StopsAt-HasFaultAt, is-end}
+use Rattle.query_grammar.specs.Roles.{Labelled, tokens_of, with_role}
+use Rattle.query_grammar.specs.Tree.{Syntax}
+use Rattle.query_grammar.specs.Grammar.{IsQuery}
+use Rattle.query_grammar.specs.Expecting.{start, ended, read_tokens}
+use Rattle.query_grammar.proofs.Carrying.{Reads}
+use Rattle.query_grammar.proofs.Runs.{run-reads}
+use Rattle.query_grammar.proofs.GrammarLaws.{query-run}
+use Rattle.query_values.specs.reading.Values.{IsSpelledOrBad, name_of, prefix_of}
+use Rattle.query_values.proofs.SourceTokens.{spelled_tokens}
 use Rattle.alg_model.specs.declared.query.Query.{Query}
-use Rattle.alg_model.specs.Answers.{AbstractQuery, abstract_of}
+use Rattle.alg_model.specs.Pattern.{Algebra}
+use Rattle.alg_model.specs.Query.{AbstractQuery, abstract_of}
 use Rattle.sparql_parse.specs.declared.fault.QueryFault.{QueryFault}
 use Rattle.sparql_parse.specs.declared.fault.QueryFault.TheVariants as faults
-use Rattle.sparql_parse.specs.Denotes.{Denotes, HasNoFaults, HasOwnFault, HasGrammarFault, IsFaultOf, IsMeantBy, grammar_fault, word_fault}
-use Rattle.sparql_parse.specs.Reading.{IsMemoryOr, and_then, first, query_at_end, query_of, query_reading, read_on, tokens_read}
-use Rattle.sparql_parse.proofs.FaultFree.{none-nothing}
-use Rattle.sparql_parse.proofs.FaultFreeRuns.{IsFaultFree, StopsWith, Stands, begins-reads, reads-begins, fault_free-read, read_on-append, read-stands, more-tokens}
-use Rattle.sparql_parse.proofs.QueryReading.{good-reading, bad-reading, text-read, ends, goes_on, query-meant, meant-query}
-use Rattle.sparql_parse.proofs.ReadingLaws.{reading_at, next-unread, next-fault, read_on-fault, read_on-all}
-use Rattle.sparql_parse.proofs.SourceReading.{tokens_read-are}
-use Rattle.sparql_parse.proofs.Utf8Fronts.{bad-front, not_whole}
+use Rattle.sparql_parse.specs.Declarations.{Declares, IsDeclared}
+use Rattle.sparql_parse.specs.Denotes.{Denotes, HasNoFaults, HasOwnFault, HasGrammarFault, IsFaultOf, IsMeantBy, BeginsSo}
+use Rattle.sparql_parse.specs.Names.{AreNames, same_text, with_item}
+use Rattle.sparql_parse.specs.Translation.{translated, IsPatternOf, IsNumbered, AreColumnsOf}
+use Rattle.sparql_parse.specs.computed.Faults.{is_unknown, uses_prefix, limit_among, counts_of, fault_of}
+use Rattle.sparql_parse.specs.computed.Meaning.{Scope, scope_of, pattern_of, columns_of}
+use Rattle.sparql_parse.specs.computed.Names.{is_text, with_name, names_after, names_of, namespaces_of, namespace_of}
+use Rattle.sparql_parse.specs.computed.Reading.{IsMemoryOr, query_reading}
+use Rattle.sparql_parse.proofs.ComputedDenotes as computed
+use Rattle.sparql_parse.proofs.ComputedLaws as computed_laws
+use Rattle.sparql_parse.proofs.ComputedLaws.{Ok-one, Err-one, Ok-not-Err}
+use Rattle.sparql_parse.proofs.DeclarationLaws.{IsProper, AreProper, AreProper-front, AreProper-back, namespace_of-stands, namespace_of-none, StandsFor-found}
+use Rattle.sparql_parse.proofs.ColumnNumbers.{AreColumnsOf-are, columns_of-are}
+use Rattle.sparql_parse.proofs.FaultFreeRuns.{begins-reads}
+use Rattle.sparql_parse.proofs.NameRelations.{AreNames-is, names_of-are}
+use Rattle.sparql_parse.proofs.NamesDiffer.{names-differ}
+use Rattle.sparql_parse.proofs.NodeLaws.{Agrees, IsGood, scope_with}
+use Rattle.sparql_parse.proofs.PatternLaws.{pattern_of-numbered, pattern_of-is, is-pattern_of}
+use Rattle.sparql_parse.proofs.QueryNodes.{AreGood, query-places}
+use Rattle.sparql_parse.proofs.ReadingLaws.{reading_at}
+use Rattle.sparql_parse.proofs.TokenFaults.{HasFault-is, is-HasFault, uses}
+use Rattle.sparql_parse.proofs.TokenRoles.{reads-proper}
 
-abbrev Answer : Type 0
-Answer = Result AbstractQuery QueryFault
+-- the tokens of a text that begin a query are as they have to be
+All-front : {A : Type 0} (P : A → Type 0) (xs ys : List A) → All P (xs ++ ys) → All P xs
+All-front P [] ys all = All-nil P
+All-front P (x ∷ xs) ys all = All-cons P x xs (all 0 x (omega arith)) (All-front P xs ys (All-tail P x (xs ++ ys) all))
 
-Ok-one : (query other : AbstractQuery) (answer : Answer) → answer ≡ Ok query → answer ≡ Ok other → query ≡ other
-Ok-one query other answer is too = let both : Ok query ≡ Ok other = sym is ∙ too in cc
+front-proper : (text : List ℕ) (tokens after : List Lexeme) (ls : List Labelled) (last : State) → IsUtf8 text → AreTokens text tokens → tokens ≡ tokens_of ls ++ after → Reads last start ls → AreProper ls
+front-proper text tokens after ls last utf8 are split reads =
+    reads-proper ls last start reads (All-front IsSpelledOrBad (tokens_of ls) after (subst (All IsSpelledOrBad) split (spelled_tokens text tokens utf8 are)))
 
-Err-one : (fault other : QueryFault) (answer : Answer) → answer ≡ Err fault → answer ≡ Err other → fault ≡ other
-Err-one fault other answer is too = let both : Err fault ≡ Err other = sym is ∙ too in cc
+-- a place in tokens that are as they have to be
+place-proper : (labelled before after : List Labelled) (l : Labelled) → AreProper labelled → labelled ≡ before ++ l ∷ after → AreProper (before ++ l ∷ [])
+place-proper labelled before after l all split =
+    AreProper-front (before ++ l ∷ []) after (subst AreProper (split ∙ sym (append_assoc before (l ∷ []) after)) all)
 
-Ok-not-Err : (query : AbstractQuery) (fault : QueryFault) (answer : Answer) → answer ≡ Ok query → answer ≡ Err fault → ⊥
-Ok-not-Err query fault answer is too = let both : Ok query ≡ Err fault = sym is ∙ too in cc
+-- tokens without faults
+no_fault : (before : List Labelled) (l : Labelled) → AreProper (before ++ l ∷ []) → ((fault : QueryFault) → fault_of before l ≡ Some fault → ⊥) → (o : Option QueryFault) → fault_of before l ≡ o → fault_of before l ≡ None
+no_fault before l proper not None is = is
+no_fault before l proper not (Some fault) is = absurd (not fault is)
 
--- where the run over tokens stops
-front-of : (tokens front back : List Lexeme) → tokens ≡ front ++ back → take (length front) tokens ≡ front
-front-of tokens front back split = ap (take (length front)) split ∙ take-append_seam front back
+none-computed : (labelled : List Labelled) → AreProper labelled → HasNoFaults labelled → computed.HasNoFaults labelled
+none-computed labelled all none before after l split =
+    let proper = place-proper labelled before after l all split in
+    no_fault before l proper (λ fault is. none before after l fault split (is-HasFault before l proper fault is)) (fault_of before l) refl
 
-front-more : (tokens front back : List Lexeme) (token : Lexeme) → tokens ≡ front ++ token ∷ back → take (suc (length front)) tokens ≡ front ++ token ∷ []
-front-more tokens front back token split =
-    let one : suc (length front) ≡ length front + 1 = omega arith in
-    ap (λ n. take n tokens) one ∙ ap (take (length front + 1)) split ∙ take-append-add front (token ∷ back) 1
+computed-none : (labelled : List Labelled) → AreProper labelled → computed.HasNoFaults labelled → HasNoFaults labelled
+computed-none labelled all none before after l fault split has =
+    let proper = place-proper labelled before after l all split in
+    let both : None ≡ Some fault = sym (none before after l split) ∙ HasFault-is before l proper fault has in
+    cc
 
-length-tokens : (ls : List Labelled) → length (tokens_of ls) ≡ length ls
-length-tokens ls = length-map ls (λ (l : Labelled). l.token)
-
-run-before : (tokens behind : List Lexeme) (r : Reading) → Reads r.state start r.labelled → tokens ≡ tokens_of r.labelled ++ behind → read_tokens start (take (length r.labelled) tokens) ≡ Some r
-run-before tokens behind r reads split =
-    ap (λ n. read_tokens start (take n tokens)) (sym (length-tokens r.labelled))
-    ∙ ap (read_tokens start) (front-of tokens (tokens_of r.labelled) behind split)
-    ∙ reads-run r.labelled r.state start reads
-
-token-stops : (tokens behind : List Lexeme) (token : Lexeme) (r : Reading) → Reads r.state start r.labelled → tokens ≡ tokens_of r.labelled ++ token ∷ behind → next_step r.state (terminal_of token) ≡ None →
-    StopsAt tokens (length r.labelled)
-token-stops tokens behind token r reads split unread = record {
-  reading = r;
-  before = run-before tokens (token ∷ behind) r reads split;
-  stops = inl (
-    omega (arith, ap length split, length-append (tokens_of r.labelled) (token ∷ behind), length-tokens r.labelled),
-    ap (λ n. read_tokens start (take (suc n) tokens)) (sym (length-tokens r.labelled))
-        ∙ ap (read_tokens start) (front-more tokens (tokens_of r.labelled) behind token split)
-        ∙ read-last-none (tokens_of r.labelled) token start r (reads-run r.labelled r.state start reads) unread,
-  );
+-- the declarations and the names among the tokens of a query
+agree : (labelled : List Labelled) → AreProper labelled → Agrees labelled (scope_of labelled)
+agree labelled all = record {
+  found = λ prefix iri stands. StandsFor-found labelled prefix iri all stands;
+  stands = λ prefix iri found. namespace_of-stands labelled prefix iri all found;
+  differ = names-differ labelled;
 }
 
-end-stops : (tokens : List Lexeme) (r : Reading) → Reads r.state start r.labelled → tokens ≡ tokens_of r.labelled ++ [] → r.state.expect ≢ expects.End → StopsAt tokens (length r.labelled)
-end-stops tokens r reads split going = record {
-  reading = r;
-  before = run-before tokens [] r reads split;
-  stops = inr (omega (arith, ap length split, length-append (tokens_of r.labelled) [], length-tokens r.labelled), going);
-}
+-- a name that is there stays, and a variable puts its name there
+abbrev Listed : List (List ℕ) → List ℕ → Type 0
+Listed names name = list_any (is_text name) names ≡ true
 
--- what is read of a text that is UTF-8
-text-stands : (text : List ℕ) → Stands (tokens_read text) (read_on first (tokens_read text))
-text-stands text = read-stands (tokens_read text) (tokens_read text) first (record { reads = refl; none = none-nothing }) refl
+or-true : (a b : Bool) → a ≡ true → (a || b) ≡ true
+or-true true b e = refl
+or-true false b e = absurd (cc)
 
-abbrev reading-of-text : List ℕ → Result Reading QueryFault → Answer
-reading-of-text text read = and_then (query_at_end (length text)) read
+true-or : (a b : Bool) → b ≡ true → (a || b) ≡ true
+true-or true b e = refl
+true-or false b e = e
 
-module _ (text : List ℕ) (utf8 : IsUtf8 text) where
-  -- a query
-  ended-denotes : (query : AbstractQuery) (r : Reading) → IsFaultFree r → tokens_of r.labelled ≡ tokens_read text →
-      (r.state.expect ≡ expects.End) ⊎ (r.state.expect ≢ expects.End) → query_at_end (length text) r ≡ Ok query → Denotes text query
-  ended-denotes query r free same (inl at_end) e =
-      let (tree, is_query) = IsReadToEnd-query r.labelled (record { state = r.state; run = reads-run r.labelled r.state start free.reads; at_end = at_end }) in
-      let is : query_of r.labelled ≡ query = Ok-one (query_of r.labelled) query (query_at_end (length text) r) (ends (length text) r at_end) e in
-      record {
-        utf8 = utf8;
-        tokens = tokens_read text;
-        labelled = r.labelled;
-        tree = tree;
-        are_tokens = tokens_read-are text;
-        same_tokens = same;
-        is_query = is_query;
-        no_faults = free.none;
-        meant = subst (IsMeantBy tree r.labelled) is (query-meant r.labelled tree is_query);
-      }
-  ended-denotes query r free same (inr going) e = absurd (Ok-not-Err query (faults.Syntax (length text)) (query_at_end (length text) r) e (goes_on (length text) r going))
-
-  read-denotes : (query : AbstractQuery) (read : Result Reading QueryFault) → Stands (tokens_read text) read → reading-of-text text read ≡ Ok query → Denotes text query
-  read-denotes query (Ok r) (free, same) e = ended-denotes query r free same (is-end r.state.expect) e
-  read-denotes query (Err fault) stands e = absurd (Ok-not-Err query fault (Err fault) e refl)
-
-  -- a fault
-  own-is_fault : (fault : QueryFault) → HasOwnFault (tokens_read text) fault → IsFaultOf text fault
-  own-is_fault fault own = IsFaultOf.of_token (tokens_read text) utf8 (tokens_read-are text) own
-
-  grammar-is_fault : (fault : QueryFault) (behind : List Lexeme) (r : Reading) → IsFaultFree r → tokens_read text ≡ tokens_of r.labelled ++ behind →
-      StopsAt (tokens_read text) (length r.labelled) → fault ≡ grammar_fault (length text) behind → IsFaultOf text fault
-  grammar-is_fault fault behind r free split stops is =
-      let has : HasGrammarFault text (tokens_read text) fault = record {
-        before = r.labelled;
-        behind = behind;
-        split = split;
-        begins = reads-begins r.labelled r.state free.reads;
-        none_before = free.none;
-        at = StopsAt-HasFaultAt (tokens_read text) (length r.labelled) stops;
-        is_fault = is;
-      } in
-      IsFaultOf.of_grammar (tokens_read text) utf8 (tokens_read-are text) has
-
-  stop-is_fault : (fault : QueryFault) → StopsWith (tokens_read text) fault → IsFaultOf text fault
-  stop-is_fault fault stop =
-      grammar-is_fault fault (stop.token ∷ stop.behind) stop.reading stop.fault_free stop.split
-      (token-stops (tokens_read text) stop.behind stop.token stop.reading stop.fault_free.reads stop.split stop.unread) stop.is_fault
-
-  end-is_fault : (fault : QueryFault) (r : Reading) → IsFaultFree r → tokens_of r.labelled ≡ tokens_read text →
-      (r.state.expect ≡ expects.End) ⊎ (r.state.expect ≢ expects.End) → query_at_end (length text) r ≡ Err fault → IsFaultOf text fault
-  end-is_fault fault r free same (inl at_end) e = absurd (Ok-not-Err (query_of r.labelled) fault (query_at_end (length text) r) (ends (length text) r at_end) e)
-  end-is_fault fault r free same (inr going) e =
-      let split : tokens_read text ≡ tokens_of r.labelled ++ [] = sym same ∙ sym (append-nil (tokens_of r.labelled)) in
-      grammar-is_fault fault [] r free split (end-stops (tokens_read text) r free.reads split going)
-      (Err-one fault (faults.Syntax (length text)) (query_at_end (length text) r) e (goes_on (length text) r going))
-
-  read-is_fault : (fault : QueryFault) (read : Result Reading QueryFault) → Stands (tokens_read text) read → reading-of-text text read ≡ Err fault → IsFaultOf text fault
-  read-is_fault fault (Ok r) (free, same) e = end-is_fault fault r free same (is-end r.state.expect) e
-  read-is_fault fault (Err other) (inl own) e = own-is_fault fault (subst (HasOwnFault (tokens_read text)) (Err-one other fault (Err other) refl e) own)
-  read-is_fault fault (Err other) (inr stop) e = stop-is_fault fault (subst (StopsWith (tokens_read text)) (Err-one other fault (Err other) refl e) stop)
-
--- what the run has read where it stops
-same-reading : (a b : Reading) (read : Option Reading) → read ≡ Some a → read ≡ Some b → a ≡ b
-same-reading a b read is other = let both : Some a ≡ Some b = sym is ∙ other in cc
-
-stop-unread : (tokens behind : List Lexeme) (token : Lexeme) (r : Reading) → Reads r.state start r.labelled → tokens ≡ tokens_of r.labelled ++ token ∷ behind →
-    StopsAt tokens (length r.labelled) → (step : Option Step) → next_step r.state (terminal_of token) ≡ step → next_step r.state (terminal_of token) ≡ None
-stop-unread tokens behind token r reads split stop None is = is
-stop-unread tokens behind token r reads split stop (Some step) is =
-    let one : Reads step.state r.state (with_role step.role token ∷ []) = (step.state, is, refl) in
-    let ls = r.labelled ++ with_role step.role token ∷ [] in
-    let run = read-last (tokens_of r.labelled) token start r step (reads-run r.labelled r.state start reads) is in
-    let more : read_tokens start (take (suc (length r.labelled)) tokens) ≡ Some (reading_at ls step.state) =
-    ap (λ n. read_tokens start (take (suc n) tokens)) (sym (length-tokens r.labelled))
-    ∙ ap (read_tokens start) (front-more tokens (tokens_of r.labelled) behind token split)
-    ∙ run in
-    elim stop.stops [
-      | inl inside ↦ (let none : read_tokens start (take (suc (length r.labelled)) tokens) ≡ None = inside.1 in let both : None ≡ Some (reading_at ls step.state) = sym none ∙ more in absurd (cc))
-      | inr at_end ↦ (let e : length r.labelled ≡ length tokens = at_end.0 in absurd (omega (arith, ap length split, length-append (tokens_of r.labelled) (token ∷ behind), length-tokens r.labelled)))
+with_name-keeps : (names : List (List ℕ)) (other name : List ℕ) → Listed names name → Listed (with_name names other) name
+with_name-keeps names other name there =
+    elim (list_any (is_text other) names) as (λ b. Listed (cond b names (names ++ other ∷ [])) name) [
+      | true ↦ there
+      | false ↦ list_any-append (is_text name) names (other ∷ []) ∙ or-true (list_any (is_text name) names) (list_any (is_text name) (other ∷ [])) there
     ]
 
-stop-going : (tokens : List Lexeme) (r : Reading) → Reads r.state start r.labelled → tokens ≡ tokens_of r.labelled ++ [] → StopsAt tokens (length r.labelled) → r.state.expect ≢ expects.End
-stop-going tokens r reads split stop =
-    elim stop.stops [
-      | inl inside ↦ (let lt : length r.labelled < length tokens = inside.0 in absurd (omega (arith, ap length split, length-append (tokens_of r.labelled) [], length-tokens r.labelled)))
-      | inr at_end ↦ (let same : stop.reading ≡ r = same-reading stop.reading r (read_tokens start (take (length r.labelled) tokens)) stop.before (run-before tokens [] r reads split) in subst (λ (x : Reading). x.state.expect ≢ expects.End) same at_end.1)
-    ]
+with_name-lists : (names : List (List ℕ)) (name : List ℕ) → Listed (with_name names name) name
+with_name-lists names name =
+    elim (list_any (is_text name) names) as (λ b. list_any (is_text name) names ≡ b → Listed (cond b names (names ++ name ∷ [])) name) [
+      | true ↦ λ e. e
+      | false ↦ λ e.
+          list_any-append (is_text name) names (name ∷ [])
+          ∙ true-or (list_any (is_text name) names) (list_any (is_text name) (name ∷ [])) (or-true (is_text name name) false ((bytes_eq-Decides name name).1 refl))
+    ] refl
 
--- tokens that are without a fault are read
-front-read : (ls : List Labelled) (s : State) (behind tokens : List Lexeme) → Reads s start ls → HasNoFaults ls → tokens ≡ tokens_of ls ++ behind → read_on first tokens ≡ read_on (reading_at ls s) behind
-front-read ls s behind tokens reads none split =
-    ap (read_on first) split ∙ read_on-append (tokens_of ls) behind first (reading_at ls s) (fault_free-read ls [] start s reads none)
+names_after-keeps : (names : List (List ℕ)) (t : Terminal) (token : Lexeme) (name : List ℕ) → Listed names name → Listed (names_after names t token) name
+names_after-keeps names terminals.Variable token name there = with_name-keeps names (name_of token) name there
+names_after-keeps names _ token name there = there
 
-own-read : (tokens : List Lexeme) (fault : QueryFault) → HasOwnFault tokens fault → read_on first tokens ≡ Err fault
-own-read tokens fault own =
+names_after-lists : (names : List (List ℕ)) (t : Terminal) (token : Lexeme) → t ≡ terminals.Variable → Listed (names_after names t token) (name_of token)
+names_after-lists names t token e = subst (λ (x : Terminal). Listed (names_after names x token) (name_of token)) (sym e) (with_name-lists names (name_of token))
+
+abbrev one_more : List (List ℕ) → Labelled → List (List ℕ)
+one_more names l = names_after names (terminal_of l.token) l.token
+
+fold-keeps : (names : List (List ℕ)) (ls : List Labelled) (name : List ℕ) → Listed names name → Listed (fold one_more names ls) name
+fold-keeps names [] name there = there
+fold-keeps names (l ∷ ls) name there = fold-keeps (one_more names l) ls name (names_after-keeps names (terminal_of l.token) l.token name there)
+
+abbrev AreListed : List (List ℕ) → List Labelled → Type 0
+AreListed names [] = Unit {0}
+AreListed names (l ∷ ls) = (terminal_of l.token ≡ terminals.Variable → Listed names (name_of l.token)) × AreListed names ls
+
+fold-listed : (names : List (List ℕ)) (ls : List Labelled) → AreListed (fold one_more names ls) ls
+fold-listed names [] = tt
+fold-listed names (l ∷ ls) =
+    (λ e. fold-keeps (one_more names l) ls (name_of l.token) (names_after-lists names (terminal_of l.token) l.token e), fold-listed (one_more names l) ls)
+
+names-listed : (labelled : List Labelled) → AreListed (names_of labelled) labelled
+unfolding names_of
+names-listed labelled = fold-listed [] labelled
+
+-- a prefix that is used without a fault is declared
+declared-before : (labelled before rest : List Labelled) (prefix iri : List ℕ) → labelled ≡ before ++ rest → Declares before prefix iri → IsDeclared labelled prefix
+declared-before labelled before rest prefix iri split d =
+    (iri, record {
+      before = d.before;
+      label = d.label;
+      namespace = d.namespace;
+      after = d.after ++ rest;
+      split = split ∙ ap (λ xs. xs ++ rest) d.split ∙ append_assoc d.before (with_role roles.Declared d.label ∷ with_role roles.Namespace d.namespace ∷ d.after) rest;
+      prefix_is = d.prefix_is;
+      iri_is = d.iri_is;
+    })
+
+some-after : (labelled before rest : List Labelled) (prefix : List ℕ) → AreProper before → labelled ≡ before ++ rest → is_some (namespace_of (namespaces_of before) prefix) ≡ true → (o : Option (List ℕ)) → namespace_of (namespaces_of labelled) prefix ≡ o → is_some (namespace_of (namespaces_of labelled) prefix) ≡ true
+some-after labelled before rest prefix all split some (Some iri) is = ap is_some is
+some-after labelled before rest prefix all split some None is =
+    let not = namespace_of-none labelled prefix is in
+    elim (namespace_of (namespaces_of before) prefix) as (λ o. namespace_of (namespaces_of before) prefix ≡ o → is_some o ≡ true → is_some (namespace_of (namespaces_of labelled) prefix) ≡ true) [
+      | Some iri ↦ λ found t. absurd (not (declared-before labelled before rest prefix iri split (namespace_of-stands before prefix iri all found).declaration))
+      | None ↦ λ found t. absurd (cc)
+    ] refl some
+
+known-test : (uses unknown : Bool) (limit : Option QueryFault) (f : QueryFault) → (if (uses && unknown) then Some f else limit) ≡ None → uses ≡ true → unknown ≡ false
+known-test true true limit f e u = absurd (cc)
+known-test true false limit f e u = refl
+known-test false unknown limit f e u = absurd (cc)
+
+is_some-none : (o : Option (List ℕ)) → is_none o ≡ false → is_some o ≡ true
+is_some-none None e = absurd (cc)
+is_some-none (Some x) e = refl
+
+known-before : (before : List Labelled) (l : Labelled) → fault_of before l ≡ None → uses_prefix l.token.kind l.role ≡ true → is_some (namespace_of (namespaces_of before) (prefix_of l.token)) ≡ true
+unfolding fault_of
+known-before before l none u =
+    is_some-none (namespace_of (namespaces_of before) (prefix_of l.token))
+    (known-test (uses_prefix l.token.kind l.role) (is_none (namespace_of (namespaces_of before) (prefix_of l.token))) (limit_among l.token.at (counts_of (before ++ l ∷ []))) (faults.UnknownPrefix l.token.at) none u)
+
+-- tokens without faults are good
+good-from : (labelled before ls : List Labelled) → AreProper labelled → computed.HasNoFaults labelled → labelled ≡ before ++ ls → AreProper ls → AreListed (names_of labelled) ls → AreGood (scope_of labelled) ls
+good-from labelled before [] all none split proper listed = tt
+good-from labelled before (l ∷ ls) all none split (first, others) (here, rest) =
+    let front : AreProper before = AreProper-front before (l ∷ ls) (subst AreProper split all) in
+    let good : IsGood (scope_of labelled) l = record {
+      spelled = first.spelled;
+      known = λ used kind.
+          some-after labelled before (l ∷ ls) (prefix_of l.token) front split
+          (known-before before l (none before ls l split) (uses l.token.kind l.role used kind)) (namespace_of (namespaces_of labelled) (prefix_of l.token)) refl;
+      listed = here;
+    } in
+    (good, good-from labelled (before ++ l ∷ []) ls all none (split ∙ sym (append_assoc before (l ∷ []) ls)) others rest)
+
+are-good : (labelled : List Labelled) → AreProper labelled → computed.HasNoFaults labelled → AreGood (scope_of labelled) labelled
+are-good labelled all none = good-from labelled [] labelled all none refl all (names-listed labelled)
+
+-- what is meant is what is computed
+abbrev PatternIs : List Labelled → Syntax → List (List ℕ) → Algebra → Type 0
+PatternIs labelled tree names pattern = IsPatternOf (record { tokens = labelled; names = names }) (translated tree.group) pattern
+
+computed-meant : (tree : Syntax) (labelled : List Labelled) (query : AbstractQuery) → AreProper labelled → computed.HasNoFaults labelled → IsQuery tree labelled → computed.IsMeantBy tree labelled query → IsMeantBy tree labelled query
+computed-meant tree labelled query all none is_query meant =
+    let scope = scope_of labelled in
+    let agrees = agree labelled all in
+    let (columns, nodes) = query-places labelled scope agrees tree labelled is_query.spelled (are-good labelled all none) in
+    let pattern = pattern_of-is labelled scope agrees tree.group nodes in
+    let here : PatternIs labelled tree (names_of labelled) query.pattern = subst (PatternIs labelled tree (names_of labelled)) (sym meant.pattern) pattern in
+    let numbers = columns_of-are labelled scope agrees query.pattern tree.columns columns in
+    let column_numbers : AreColumnsOf (names_of labelled) query.pattern tree.columns (map (λ column. column.0) query.columns) =
+    subst (AreColumnsOf (names_of labelled) query.pattern tree.columns) (sym meant.columns) numbers in
+    record {
+      names = subst (AreNames labelled) (sym meant.names) (names_of-are labelled all);
+      pattern = subst (λ (names : List (List ℕ)). PatternIs labelled tree names query.pattern) (sym meant.names) here;
+      numbered = subst IsNumbered (sym meant.pattern) (pattern_of-numbered scope tree.group);
+      columns = subst (λ (names : List (List ℕ)). AreColumnsOf names query.pattern tree.columns (map (λ column. column.0) query.columns)) (sym meant.names) column_numbers;
+      distinct = meant.distinct;
+    }
+
+meant-computed : (tree : Syntax) (labelled : List Labelled) (query : AbstractQuery) → AreProper labelled → IsMeantBy tree labelled query → computed.IsMeantBy tree labelled query
+meant-computed tree labelled query all meant =
+    let scope = scope_of labelled in
+    let agrees = agree labelled all in
+    let names : query.names ≡ names_of labelled = AreNames-is labelled query.names meant.names in
+    let here : PatternIs labelled tree (names_of labelled) query.pattern = subst (λ (ns : List (List ℕ)). PatternIs labelled tree ns query.pattern) names meant.pattern in
+    let column_numbers : AreColumnsOf (names_of labelled) query.pattern tree.columns (map (λ column. column.0) query.columns) =
+    subst (λ (ns : List (List ℕ)). AreColumnsOf ns query.pattern tree.columns (map (λ column. column.0) query.columns)) names meant.columns in
+    record {
+      names = names;
+      pattern = is-pattern_of labelled scope agrees tree.group query.pattern here meant.numbered;
+      columns = AreColumnsOf-are scope query.pattern tree.columns (map (λ column. column.0) query.columns) (names-differ labelled) column_numbers;
+      distinct = meant.distinct;
+    }
+
+-- the tokens of a query
+query-proper : (text : List ℕ) (tokens : List Lexeme) (labelled : List Labelled) (tree : Syntax) → IsUtf8 text → AreTokens text tokens → tokens_of labelled ≡ tokens → IsQuery tree labelled → AreProper labelled
+query-proper text tokens labelled tree utf8 are same is_query =
+    let run : read_tokens start (tokens_of labelled) ≡ Some (reading_at labelled ended) = query-run tree labelled is_query in
+    let reads : Reads ended start labelled = (run-reads (tokens_of labelled) start (reading_at labelled ended) run).reads in
+    front-proper text tokens [] labelled ended utf8 are (sym same ∙ sym (append-nil (tokens_of labelled))) reads
+
+computed-denotes : (text : List ℕ) (query : AbstractQuery) → computed.Denotes text query → Denotes text query
+computed-denotes text query d =
+    let all = query-proper text d.tokens d.labelled d.tree d.utf8 d.are_tokens d.same_tokens d.is_query in
+    record {
+      utf8 = d.utf8;
+      tokens = d.tokens;
+      labelled = d.labelled;
+      tree = d.tree;
+      are_tokens = d.are_tokens;
+      same_tokens = d.same_tokens;
+      is_query = d.is_query;
+      no_faults = computed-none d.labelled all d.no_faults;
+      meant = computed-meant d.tree d.labelled query all d.no_faults d.is_query d.meant;
+    }
+
+denotes-computed : (text : List ℕ) (query : AbstractQuery) → Denotes text query → computed.Denotes text query
+denotes-computed text query d =
+    let all = query-proper text d.tokens d.labelled d.tree d.utf8 d.are_tokens d.same_tokens d.is_query in
+    record {
+      utf8 = d.utf8;
+      tokens = d.tokens;
+      labelled = d.labelled;
+      tree = d.tree;
+      are_tokens = d.are_tokens;
+      same_tokens = d.same_tokens;
+      is_query = d.is_query;
+      no_faults = none-computed d.labelled all d.no_faults;
+      meant = meant-computed d.tree d.labelled query all d.meant;
+    }
+
+-- faults
+own-computed : (text : List ℕ) (tokens : List Lexeme) (fault : QueryFault) → IsUtf8 text → AreTokens text tokens → HasOwnFault tokens fault → computed.HasOwnFault tokens fault
+own-computed text tokens fault utf8 are own =
     let (last, reads) = begins-reads (own.before ++ own.token ∷ []) own.begins in
-    let (s, front, (next, is, e)) = reads-split own.before (own.token ∷ []) last start reads in
-    front-read own.before s (own.token.token ∷ own.behind) tokens front own.none_before (own.split ∙ more-tokens own.before own.token own.behind)
-    ∙ read_on-fault (reading_at own.before s) fault own.token.token own.behind (next-fault (reading_at own.before s) own.token.token (step_of next own.token.role) fault is own.is_fault)
+    let all = front-proper text tokens own.after (own.before ++ own.token ∷ []) last utf8 are own.split reads in
+    record {
+      before = own.before;
+      token = own.token;
+      behind = own.after;
+      split = own.split;
+      begins = own.begins;
+      none_before = none-computed own.before (AreProper-front own.before (own.token ∷ []) all) own.none_before;
+      is_fault = HasFault-is own.before own.token all fault own.has;
+    }
 
-grammar-read : (size : ℕ) (tokens behind : List Lexeme) (ls : List Labelled) (s : State) → Reads s start ls → HasNoFaults ls → tokens ≡ tokens_of ls ++ behind → StopsAt tokens (length ls) →
-    and_then (query_at_end size) (read_on first tokens) ≡ Err (grammar_fault size behind)
-grammar-read size tokens [] ls s reads none split stop =
-    ap (and_then (query_at_end size)) (front-read ls s [] tokens reads none split ∙ read_on-all (reading_at ls s))
-    ∙ goes_on size (reading_at ls s) (stop-going tokens (reading_at ls s) reads split stop)
-grammar-read size tokens (token ∷ behind) ls s reads none split stop =
-    let unread = stop-unread tokens behind token (reading_at ls s) reads split stop (next_step s (terminal_of token)) refl in
-    let fault = word_fault token.at (unsupported_word token) in
-    ap (and_then (query_at_end size)) (front-read ls s (token ∷ behind) tokens reads none split ∙ read_on-fault (reading_at ls s) fault token behind (next-unread (reading_at ls s) token unread))
+computed-own : (text : List ℕ) (tokens : List Lexeme) (fault : QueryFault) → IsUtf8 text → AreTokens text tokens → computed.HasOwnFault tokens fault → HasOwnFault tokens fault
+computed-own text tokens fault utf8 are own =
+    let (last, reads) = begins-reads (own.before ++ own.token ∷ []) own.begins in
+    let all = front-proper text tokens own.behind (own.before ++ own.token ∷ []) last utf8 are own.split reads in
+    record {
+      before = own.before;
+      token = own.token;
+      after = own.behind;
+      split = own.split;
+      begins = own.begins;
+      none_before = computed-none own.before (AreProper-front own.before (own.token ∷ []) all) own.none_before;
+      has = is-HasFault own.before own.token all fault own.is_fault;
+    }
 
--- a text is UTF-8 or not
-utf8-or-not : (text : List ℕ) → IsUtf8 text ⊎ ¬ IsUtf8 text
-utf8-or-not text = elim (is_utf8 text) as (λ b. is_utf8 text ≡ b → IsUtf8 text ⊎ ¬ IsUtf8 text) [
-  | true ↦ λ e. inl (IsUtf8-from_is_utf8 text e)
-  | false ↦ λ e. inr (λ utf8. true≢false (sym (is_utf8-from_IsUtf8 text utf8) ∙ e))
-] refl
+grammar-computed : (text : List ℕ) (tokens : List Lexeme) (fault : QueryFault) → IsUtf8 text → AreTokens text tokens → HasGrammarFault text tokens fault → computed.HasGrammarFault text tokens fault
+grammar-computed text tokens fault utf8 are has =
+    let (last, reads) = begins-reads has.before has.begins in
+    let all = front-proper text tokens has.after has.before last utf8 are has.split reads in
+    record { before = has.before; behind = has.after; split = has.split; begins = has.begins; none_before = none-computed has.before all has.none_before; at = has.at; is_fault = has.is_fault }
 
+computed-grammar : (text : List ℕ) (tokens : List Lexeme) (fault : QueryFault) → IsUtf8 text → AreTokens text tokens → computed.HasGrammarFault text tokens fault → HasGrammarFault text tokens fault
+computed-grammar text tokens fault utf8 are has =
+    let (last, reads) = begins-reads has.before has.begins in
+    let all = front-proper text tokens has.behind has.before last utf8 are has.split reads in
+    record { before = has.before; after = has.behind; split = has.split; begins = has.begins; none_before = computed-none has.before all has.none_before; at = has.at; is_fault = has.is_fault }
+
+fault-computed : (text : List ℕ) (fault : QueryFault) → IsFaultOf text fault → computed.IsFaultOf text fault
+fault-computed text fault (IsFaultOf.not_utf8 good up is) = computed.IsFaultOf.not_utf8 good up is
+fault-computed text fault (IsFaultOf.of_token tokens utf8 are own) = computed.IsFaultOf.of_token tokens utf8 are (own-computed text tokens fault utf8 are own)
+fault-computed text fault (IsFaultOf.of_grammar tokens utf8 are has) = computed.IsFaultOf.of_grammar tokens utf8 are (grammar-computed text tokens fault utf8 are has)
+
+computed-fault : (text : List ℕ) (fault : QueryFault) → computed.IsFaultOf text fault → IsFaultOf text fault
+computed-fault text fault (computed.IsFaultOf.not_utf8 good up is) = IsFaultOf.not_utf8 good up is
+computed-fault text fault (computed.IsFaultOf.of_token tokens utf8 are own) = IsFaultOf.of_token tokens utf8 are (computed-own text tokens fault utf8 are own)
+computed-fault text fault (computed.IsFaultOf.of_grammar tokens utf8 are has) = IsFaultOf.of_grammar tokens utf8 are (computed-grammar text tokens fault utf8 are has)
+
+-- what is read of a text is what it denotes, or its fault
 pub reading-denotes : (text : List ℕ) (query : AbstractQuery) → query_reading text ≡ Ok query → Denotes text query
-reading-denotes text query e = elim (utf8-or-not text) [
-  | inl utf8 ↦ read-denotes text utf8 query (read_on first (tokens_read text)) (text-stands text)
-      (sym (text-read text (tokens_read text) (read_on first (tokens_read text)) (tokens_read-are text) refl) ∙ sym (good-reading text utf8) ∙ e)
-  | inr bad ↦ absurd (Ok-not-Err query (faults.Syntax (utf8_valid_len text)) (query_reading text) e (bad-reading text bad))
-]
-
-pub reading-is_fault : (text : List ℕ) (fault : QueryFault) → query_reading text ≡ Err fault → IsFaultOf text fault
-reading-is_fault text fault e = elim (utf8-or-not text) [
-  | inl utf8 ↦ read-is_fault text utf8 fault (read_on first (tokens_read text)) (text-stands text)
-      (sym (text-read text (tokens_read text) (read_on first (tokens_read text)) (tokens_read-are text) refl) ∙ sym (good-reading text utf8) ∙ e)
-  | inr bad ↦ IsFaultOf.not_utf8 (utf8_valid_len text) (bad-front text bad) (Err-one fault (faults.Syntax (utf8_valid_len text)) (query_reading text) e (bad-reading text bad))
-]
+reading-denotes text query e = computed-denotes text query (computed_laws.reading-denotes text query e)
 
 pub denotes-reading : (text : List ℕ) (query : AbstractQuery) → Denotes text query → query_reading text ≡ Ok query
-denotes-reading text query d =
-    let run : read_tokens start (tokens_of d.labelled) ≡ Some (reading_at d.labelled ended) = query-run d.tree d.labelled d.is_query in
-    let reads : Reads ended start d.labelled = (run-reads (tokens_of d.labelled) start (reading_at d.labelled ended) run).reads in
-    let read : read_on first d.tokens ≡ Ok (reading_at d.labelled ended) = ap (read_on first) (sym d.same_tokens) ∙ fault_free-read d.labelled [] start ended reads d.no_faults in
-    good-reading text d.utf8
-    ∙ text-read text d.tokens (Ok (reading_at d.labelled ended)) d.are_tokens read
-    ∙ ends (length text) (reading_at d.labelled ended) refl
-    ∙ ap Ok (sym (meant-query d.labelled d.tree query d.is_query d.meant))
+denotes-reading text query d = computed_laws.denotes-reading text query (denotes-computed text query d)
+
+pub reading-is_fault : (text : List ℕ) (fault : QueryFault) → query_reading text ≡ Err fault → IsFaultOf text fault
+reading-is_fault text fault e = computed-fault text fault (computed_laws.reading-is_fault text fault e)
 
 pub fault-reading : (text : List ℕ) (fault : QueryFault) → IsFaultOf text fault → query_reading text ≡ Err fault
-fault-reading text fault (IsFaultOf.not_utf8 good up is) =
-    bad-reading text (not_whole text good up) ∙ ap (λ n. Err (faults.Syntax n)) (utf8_valid_len-IsValidUpTo text good up) ∙ ap Err (sym is)
-fault-reading text fault (IsFaultOf.of_token tokens utf8 are own) =
-    good-reading text utf8 ∙ text-read text tokens (Err fault) are (own-read tokens fault own)
-fault-reading text fault (IsFaultOf.of_grammar tokens utf8 are has) =
-    let (s, reads) = begins-reads has.before has.begins in
-    good-reading text utf8
-    ∙ text-read text tokens (read_on first tokens) are refl
-    ∙ grammar-read (length text) tokens has.behind has.before s reads has.none_before has.split (HasFaultAt-StopsAt tokens (length has.before) has.at)
-    ∙ ap Err (sym has.is_fault)
+fault-reading text fault is = computed_laws.fault-reading text fault (fault-computed text fault is)
 
 -- each text denotes one query or has one fault
 some-result : (text : List ℕ) (result : Result AbstractQuery QueryFault) → query_reading text ≡ result → ((query : AbstractQuery) × Denotes text query) ⊎ ((fault : QueryFault) × IsFaultOf text fault)

@@ -1,8 +1,8 @@
 -- Tokens of which none has a fault: one token more, and a front.
 use Rattle.std.proofs.Common.{◌≡◌, ◌⊎◌, inl, inr, List, [], ◌∷◌, ◌++◌, length, None, refl, sym, ap, ◌∙◌, arith, length-append}
 use Rattle.query_grammar.specs.Roles.{Labelled}
-use Rattle.sparql_parse.specs.Faults.{fault_of}
-use Rattle.sparql_parse.specs.Denotes.{HasNoFaults}
+use Rattle.sparql_parse.specs.computed.Faults.{fault_of}
+use Rattle.sparql_parse.proofs.ComputedDenotes.{HasNoFaults}
 
 -- a place in a list with one item more: that item, or a place before it
 abbrev IsLast : {A : Type 0} → List A → A → List A → A → List A → Type 0

@@ -12,11 +12,12 @@ use Rattle.query_grammar.proofs.Carrying.{Reads, step_of}
 use Rattle.query_grammar.proofs.Runs.{reads-run, run-reads, reads-append}
 use Rattle.query_grammar.proofs.GrammarLaws.{front-run, read-front_of_query}
 use Rattle.sparql_parse.specs.declared.fault.QueryFault.{QueryFault}
-use Rattle.sparql_parse.specs.Faults.{fault_of}
-use Rattle.sparql_parse.specs.Denotes.{HasNoFaults, BeginsSo, HasOwnFault, word_fault}
-use Rattle.sparql_parse.specs.Reading.{read_next, read_on}
+use Rattle.sparql_parse.specs.computed.Faults.{fault_of}
+use Rattle.sparql_parse.proofs.ComputedDenotes.{HasNoFaults, HasOwnFault}
+use Rattle.sparql_parse.specs.Denotes.{BeginsSo, word_fault}
+use Rattle.sparql_parse.specs.computed.Reading.{read_next, read_on}
 use Rattle.sparql_parse.proofs.FaultFree.{none-more}
-use Rattle.sparql_parse.proofs.ReadingLaws.{reading_at, reading_behind, next-unread, next-read, next-fault, read_on-more, read_on-fault, read_on-all}
+use Rattle.sparql_parse.proofs.ReadingLaws.{reading_at, reading_after, next-unread, next-read, next-fault, read_on-more, read_on-fault, read_on-all}
 
 -- what is read begins a query, and no token of it has a fault
 pub record IsFaultFree (r : Reading) : Type 0 where
@@ -26,11 +27,11 @@ pub record IsFaultFree (r : Reading) : Type 0 where
 pub reads-begins : (ls : List Labelled) (last : State) → Reads last start ls → BeginsSo ls
 reads-begins ls last reads =
     let (behind, tree, query) = read-front_of_query (tokens_of ls) (reading_at ls last) (reads-run ls last start reads) in
-    record { behind = behind; tree = tree; is_query = query }
+    record { after = behind; tree = tree; is_query = query }
 
 pub begins-reads : (ls : List Labelled) → BeginsSo ls → (last : State) × Reads last start ls
 begins-reads ls begins =
-    let (last, run) = front-run begins.tree ls begins.behind begins.is_query in
+    let (last, run) = front-run begins.tree ls begins.after begins.is_query in
     (last, (run-reads (tokens_of ls) start (reading_at ls last) run).reads)
 
 -- tokens without a fault, behind others
@@ -87,8 +88,8 @@ module _ (all tokens : List Lexeme) (r : Reading) (token : Lexeme) (free : IsFau
   Rest = (next : Reading) → IsFaultFree next → all ≡ tokens_of next.labelled ++ tokens → Stands all (read_on next tokens)
 
   own-stands : Rest → (step : Step) → next_step r.state (terminal_of token) ≡ Some step → (own : Option QueryFault) → fault_of r.labelled (with_role step.role token) ≡ own → Stands all (read_on r (token ∷ tokens))
-  own-stands rest step is None none = subst (Stands all) (sym (read_on-more r (reading_behind r token step) token tokens (next-read r token step is none)))
-      (rest (reading_behind r token step) (record { reads = reads-more r token step free is; none = none-more r.labelled (with_role step.role token) free.none none }) (split ∙ sym (more-tokens r.labelled (with_role step.role token) tokens)))
+  own-stands rest step is None none = subst (Stands all) (sym (read_on-more r (reading_after r token step) token tokens (next-read r token step is none)))
+      (rest (reading_after r token step) (record { reads = reads-more r token step free is; none = none-more r.labelled (with_role step.role token) free.none none }) (split ∙ sym (more-tokens r.labelled (with_role step.role token) tokens)))
   own-stands rest step is (Some fault) some = subst (Stands all) (sym (read_on-fault r fault token tokens (next-fault r token step fault is some)))
       (inl (record {
         before = r.labelled;

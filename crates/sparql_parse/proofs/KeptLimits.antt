@@ -7,12 +7,13 @@ use Rattle.query_grammar.specs.Tree.{Syntax}
 use Rattle.query_grammar.specs.Grammar.{IsQuery}
 use Rattle.alg_model.specs.declared.query.Query.{Query}
 use Rattle.alg_model.specs.Pattern.{Algebra, algebra_of}
-use Rattle.alg_model.specs.Answers.{abstract_of}
+use Rattle.alg_model.specs.Query.{abstract_of}
 use Rattle.alg_model.specs.Limits.{PatternKeepsLimits, KeepsLimits}
-use Rattle.sparql_parse.specs.Names.{names_of}
+use Rattle.sparql_parse.specs.computed.Names.{names_of}
 use Rattle.sparql_parse.specs.Faults.{is_object, is_optional}
-use Rattle.sparql_parse.specs.Meaning.{pattern_of, columns_of}
-use Rattle.sparql_parse.specs.Denotes.{scope_of, IsMeantBy}
+use Rattle.sparql_parse.specs.computed.Meaning.{pattern_of, columns_of}
+use Rattle.sparql_parse.specs.computed.Meaning.{scope_of}
+use Rattle.sparql_parse.proofs.ComputedDenotes.{IsMeantBy}
 use Rattle.sparql_parse.proofs.QueryLimits.{names-fine, pattern-limits}
 use Rattle.sparql_parse.proofs.ColumnLimits.{columns-below, columns-differ, vars-below, vars-differ}
 use Rattle.sparql_parse.proofs.NamesDiffer.{names-differ}

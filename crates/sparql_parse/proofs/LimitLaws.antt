@@ -12,11 +12,11 @@ use Rattle.query_grammar.specs.Tree.{Node, Same, Parts, NoParts, OptionalPart, N
 use Rattle.query_grammar.specs.Grammar.{IsQuery}
 use Rattle.query_grammar.proofs.Counts.{one_if, count-cons}
 use Rattle.alg_model.specs.declared.pattern.TriplePat.{TriplePat}
-use Rattle.alg_model.specs.Pattern.{Algebra, Join, LeftJoin}
-use Rattle.alg_model.specs.Limits.{triple_patterns, optional_parts}
+use Rattle.alg_model.specs.Pattern.{Algebra, Join, LeftJoin, triple_patterns, optional_parts}
 use Rattle.sparql_parse.specs.Faults.{is_object, is_optional}
-use Rattle.sparql_parse.specs.Meaning.{Scope, NodeTriple, Translated, triples_of_block, patterns_from, empty_group, with_block, with_parts, pattern_of}
-use Rattle.sparql_parse.specs.Building.{State, Body, OpenGroup, step, in_role, built, start, with_object, body_of, closed_groups, amended, in_innermost, joined_block, pattern_so_far, combined, with_tag, with_datatype}
+use Rattle.sparql_parse.specs.computed.Meaning.{Scope, Translated, patterns_from, empty_group, with_block, with_parts, pattern_of}
+use Rattle.sparql_parse.specs.Translation.{NodeTriple, triples_of_block}
+use Rattle.sparql_parse.specs.computed.Building.{State, Body, OpenGroup, step, in_role, built, start, with_object, body_of, closed_groups, amended, in_innermost, joined_block, pattern_so_far, combined, with_tag, with_datatype}
 use Rattle.sparql_parse.proofs.Counting.{built-next}
 use Rattle.sparql_parse.proofs.Queries.{query-built, query-next}
 

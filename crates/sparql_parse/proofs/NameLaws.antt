@@ -8,10 +8,10 @@ use Rattle.query_grammar.specs.declared.terminal.Terminal.{Terminal}
 use Rattle.query_grammar.specs.declared.terminal.Terminal.TheVariants as terminals
 use Rattle.sparql_parse.specs.declared.fault.QueryFault.TheVariants as faults
 use Rattle.query_grammar.specs.Roles.{Labelled}
-use Rattle.query_values.specs.Values.{name_of}
-use Rattle.sparql_parse.specs.Names.{is_text, names_behind}
-use Rattle.sparql_parse.specs.Faults.{is_unknown, Counts, limit_among}
-use Rattle.sparql_parse.specs.Naming.{Kept, kept_behind, counts_with, fault_behind, is_new_name, IsWithin}
+use Rattle.query_values.specs.reading.Values.{name_of}
+use Rattle.sparql_parse.specs.computed.Names.{is_text, names_after}
+use Rattle.sparql_parse.specs.computed.Faults.{is_unknown, Counts, limit_among}
+use Rattle.sparql_parse.specs.computed.Naming.{Kept, kept_after, counts_with, fault_after, is_new_name, IsWithin}
 
 lt-suc : (n m : ℕ) → nat_lt (1 + n) (suc m) ≡ nat_lt n m
 lt-suc n m = grind (arith, nat_tests)
@@ -42,28 +42,28 @@ abbrev name_put : Bool → List (List ℕ) → List ℕ → List (List ℕ)
 name_put new names name = if new then names ++ name ∷ [] else names
 
 pub names-put : (names : List (List ℕ)) (terminal : Terminal) (token : Lexeme) →
-    names_behind names terminal token ≡ name_put (is_new_name names terminal token) names (name_of token)
+    names_after names terminal token ≡ name_put (is_new_name names terminal token) names (name_of token)
 names-put names terminals.Variable token =
     elim (list_any (is_text (name_of token)) names) as (λ b. (if b then names else names ++ name_of token ∷ []) ≡ name_put (not b) names (name_of token)) [ true ↦ refl | false ↦ refl ]
 names-put names _ token = refl
 
-pub names-new : (names : List (List ℕ)) (terminal : Terminal) (token : Lexeme) → is_new_name names terminal token ≡ true → names_behind names terminal token ≡ names ++ name_of token ∷ []
+pub names-new : (names : List (List ℕ)) (terminal : Terminal) (token : Lexeme) → is_new_name names terminal token ≡ true → names_after names terminal token ≡ names ++ name_of token ∷ []
 names-new names terminal token e = names-put names terminal token ∙ ap (λ b. name_put b names (name_of token)) e
 
-pub names-old : (names : List (List ℕ)) (terminal : Terminal) (token : Lexeme) → is_new_name names terminal token ≡ false → names_behind names terminal token ≡ names
+pub names-old : (names : List (List ℕ)) (terminal : Terminal) (token : Lexeme) → is_new_name names terminal token ≡ false → names_after names terminal token ≡ names
 names-old names terminal token e = names-put names terminal token ∙ ap (λ b. name_put b names (name_of token)) e
 
 -- the fault of a token: its prefix comes first, and then the limits
-abbrev pub counts_behind : Kept → ℕ → Labelled → Counts
-counts_behind k depth l = counts_with (length (kept_behind k l).names) (kept_behind k l).tally depth
+abbrev pub counts_after : Kept → ℕ → Labelled → Counts
+counts_after k depth l = counts_with (length (kept_after k l).names) (kept_after k l).tally depth
 
-pub fault-unknown : (k : Kept) (depth : ℕ) (l : Labelled) → is_unknown k.declarations.namespaces l ≡ true → fault_behind k depth l ≡ Some (faults.UnknownPrefix l.token.at)
-unfolding fault_behind
-fault-unknown k depth l e = ap (λ b. if b then Some (faults.UnknownPrefix l.token.at) else limit_among l.token.at (counts_behind k depth l)) e
+pub fault-unknown : (k : Kept) (depth : ℕ) (l : Labelled) → is_unknown k.declarations.namespaces l ≡ true → fault_after k depth l ≡ Some (faults.UnknownPrefix l.token.at)
+unfolding fault_after
+fault-unknown k depth l e = ap (λ b. if b then Some (faults.UnknownPrefix l.token.at) else limit_among l.token.at (counts_after k depth l)) e
 
-pub fault-limit : (k : Kept) (depth : ℕ) (l : Labelled) → is_unknown k.declarations.namespaces l ≡ false → fault_behind k depth l ≡ limit_among l.token.at (counts_behind k depth l)
-unfolding fault_behind
-fault-limit k depth l e = ap (λ b. if b then Some (faults.UnknownPrefix l.token.at) else limit_among l.token.at (counts_behind k depth l)) e
+pub fault-limit : (k : Kept) (depth : ℕ) (l : Labelled) → is_unknown k.declarations.namespaces l ≡ false → fault_after k depth l ≡ limit_among l.token.at (counts_after k depth l)
+unfolding fault_after
+fault-limit k depth l e = ap (λ b. if b then Some (faults.UnknownPrefix l.token.at) else limit_among l.token.at (counts_after k depth l)) e
 
 -- counts that pass no limit
 within : (at : ℕ) (c : Counts) → limit_among at c ≡ None → (c.names ≤ 64) × (c.objects ≤ 256) × (c.optionals ≤ 63) × (c.groups ≤ 256)
@@ -72,18 +72,18 @@ within at c none = (grind (arith, nat_tests), grind (arith, nat_tests), grind (a
 shallow : (at : ℕ) (c : Counts) → limit_among at c ≡ None → c.depth ≤ 32
 shallow at c none = grind (arith, nat_tests)
 
-pub no_fault-shallow : (k : Kept) (depth : ℕ) (l : Labelled) → fault_behind k depth l ≡ None → depth ≤ 32
+pub no_fault-shallow : (k : Kept) (depth : ℕ) (l : Labelled) → fault_after k depth l ≡ None → depth ≤ 32
 no_fault-shallow k depth l none =
     elim (is_unknown k.declarations.namespaces l) as (λ b. is_unknown k.declarations.namespaces l ≡ b → depth ≤ 32) [
       | true ↦ λ e. let both = sym (fault-unknown k depth l e) ∙ none in absurd (cc)
-      | false ↦ λ e. shallow l.token.at (counts_behind k depth l) (sym (fault-limit k depth l e) ∙ none)
+      | false ↦ λ e. shallow l.token.at (counts_after k depth l) (sym (fault-limit k depth l e) ∙ none)
     ] refl
 
-pub no_fault-within : (k : Kept) (depth : ℕ) (l : Labelled) → fault_behind k depth l ≡ None → IsWithin (kept_behind k l).names (kept_behind k l).tally
+pub no_fault-within : (k : Kept) (depth : ℕ) (l : Labelled) → fault_after k depth l ≡ None → IsWithin (kept_after k l).names (kept_after k l).tally
 no_fault-within k depth l none =
-    elim (is_unknown k.declarations.namespaces l) as (λ b. is_unknown k.declarations.namespaces l ≡ b → IsWithin (kept_behind k l).names (kept_behind k l).tally) [
+    elim (is_unknown k.declarations.namespaces l) as (λ b. is_unknown k.declarations.namespaces l ≡ b → IsWithin (kept_after k l).names (kept_after k l).tally) [
       | true ↦ λ e. let both = sym (fault-unknown k depth l e) ∙ none in absurd (cc)
       | false ↦ λ e.
-          let (names, objects, optionals, groups) = within l.token.at (counts_behind k depth l) (sym (fault-limit k depth l e) ∙ none) in
+          let (names, objects, optionals, groups) = within l.token.at (counts_after k depth l) (sym (fault-limit k depth l e) ∙ none) in
           record { names = names; objects = objects; optionals = optionals; groups = groups }
     ] refl

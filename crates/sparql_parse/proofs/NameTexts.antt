@@ -14,10 +14,10 @@ use Rattle.query_grammar.specs.declared.terminal.Terminal.{Terminal}
 use Rattle.query_grammar.specs.declared.terminal.Terminal.TheVariants as terminals
 use Rattle.query_grammar.specs.Terminals.{terminal_of}
 use Rattle.query_grammar.specs.Roles.{Labelled}
-use Rattle.query_values.specs.Values.{IsSpelled, name_of}
-use Rattle.sparql_parse.specs.Names.{is_text, with_name, names_behind, names_of}
+use Rattle.query_values.specs.reading.Values.{IsSpelled, name_of}
+use Rattle.sparql_parse.specs.computed.Names.{is_text, with_name, names_after, names_of}
 use Rattle.query_values.proofs.SpelledValues.{name_of-spells}
-use Rattle.sparql_parse.proofs.TerminalKinds.{terminal_of-variable}
+use Rattle.sparql_parse.proofs.TokenTerminals.{terminal_of-variable}
 
 variable-text : (token : Lexeme) → IsSpelled token → token.kind ≡ kinds.Variable → IsUtf8 (name_of token)
 variable-text token spelled kind =
@@ -38,15 +38,15 @@ with_name-texts : (names : List (List ℕ)) (name : List ℕ) → All IsUtf8 nam
 with_name-texts names name all here =
     elim (list_any (is_text name) names) as (λ b. All IsUtf8 (if b then names else names ++ name ∷ [])) [ true ↦ all | false ↦ All-append IsUtf8 names (name ∷ []) all (one-text name here) ]
 
-names_behind-texts : (names : List (List ℕ)) (terminal : Terminal) (token : Lexeme) → All IsUtf8 names → (terminal ≡ terminals.Variable → IsUtf8 (name_of token)) → All IsUtf8 (names_behind names terminal token)
-names_behind-texts names terminals.Variable token all here = with_name-texts names (name_of token) all (here refl)
-names_behind-texts names _ token all here = all
+names_after-texts : (names : List (List ℕ)) (terminal : Terminal) (token : Lexeme) → All IsUtf8 names → (terminal ≡ terminals.Variable → IsUtf8 (name_of token)) → All IsUtf8 (names_after names terminal token)
+names_after-texts names terminals.Variable token all here = with_name-texts names (name_of token) all (here refl)
+names_after-texts names _ token all here = all
 
-fold-texts : (names : List (List ℕ)) (ls : List Labelled) → All IsUtf8 names → AreSpelled ls → All IsUtf8 (fold (λ ns l. names_behind ns (terminal_of l.token) l.token) names ls)
+fold-texts : (names : List (List ℕ)) (ls : List Labelled) → All IsUtf8 names → AreSpelled ls → All IsUtf8 (fold (λ ns l. names_after ns (terminal_of l.token) l.token) names ls)
 fold-texts names [] all spelled = all
 fold-texts names (l ∷ ls) all (first, rest) =
-    fold-texts (names_behind names (terminal_of l.token) l.token) ls
-    (names_behind-texts names (terminal_of l.token) l.token all (λ e. variable-text l.token first (terminal_of-variable l.token e))) rest
+    fold-texts (names_after names (terminal_of l.token) l.token) ls
+    (names_after-texts names (terminal_of l.token) l.token all (λ e. variable-text l.token first (terminal_of-variable l.token e))) rest
 
 none-texts : All IsUtf8 []
 none-texts k d lt = absurd (omega arith)

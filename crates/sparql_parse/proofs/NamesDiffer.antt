@@ -12,8 +12,8 @@ use Rattle.query_grammar.specs.declared.terminal.Terminal.{Terminal}
 use Rattle.query_grammar.specs.declared.terminal.Terminal.TheVariants as terminals
 use Rattle.query_grammar.specs.Terminals.{terminal_of}
 use Rattle.query_grammar.specs.Roles.{Labelled}
-use Rattle.query_values.specs.Values.{name_of}
-use Rattle.sparql_parse.specs.Names.{is_text, with_name, names_behind, names_of}
+use Rattle.query_values.specs.reading.Values.{name_of}
+use Rattle.sparql_parse.specs.computed.Names.{is_text, with_name, names_after, names_of}
 
 equal_itself : (x : ℕ) → (x == x) ≡ true
 equal_itself x = grind (arith, nat_tests)
@@ -40,13 +40,13 @@ with_name-differ names name h =
     ] in
     cases (list_any (is_text name) names) refl
 
-names_behind-differ : (names : List (List ℕ)) (terminal : Terminal) (token : Lexeme) → Differ names → Differ (names_behind names terminal token)
-names_behind-differ names terminals.Variable token h = with_name-differ names (name_of token) h
-names_behind-differ names _ token h = h
+names_after-differ : (names : List (List ℕ)) (terminal : Terminal) (token : Lexeme) → Differ names → Differ (names_after names terminal token)
+names_after-differ names terminals.Variable token h = with_name-differ names (name_of token) h
+names_after-differ names _ token h = h
 
-fold-differ : (names : List (List ℕ)) (ls : List Labelled) → Differ names → Differ (fold (λ ns l. names_behind ns (terminal_of l.token) l.token) names ls)
+fold-differ : (names : List (List ℕ)) (ls : List Labelled) → Differ names → Differ (fold (λ ns l. names_after ns (terminal_of l.token) l.token) names ls)
 fold-differ names [] h = h
-fold-differ names (l ∷ ls) h = fold-differ (names_behind names (terminal_of l.token) l.token) ls (names_behind-differ names (terminal_of l.token) l.token h)
+fold-differ names (l ∷ ls) h = fold-differ (names_after names (terminal_of l.token) l.token) ls (names_after-differ names (terminal_of l.token) l.token h)
 
 none-differ : Differ []
 none-differ i j d lt within = absurd (omega arith)

@@ -10,8 +10,8 @@ use Rattle.std.specs.List.{All, find}
 use Rattle.std.specs.Option.{option_map, IfSome}
 use Rattle.std.specs.Str.{bytes_eq, chars, IsUtf8, encode_utf8_all}
 use Rattle.std.specs.Prelude.{string_bytes}
-use Rattle.sparql_parse.specs.Names.{is_text, namespace_of}
-use Rattle.sparql_parse.specs.Namespaces.{declared, IsNamespace}
+use Rattle.sparql_parse.specs.computed.Names.{is_text, namespace_of}
+use Rattle.sparql_parse.specs.held.Namespaces.{declared, IsNamespace}
 use Rattle.sparql_parse.specs.declared.namespaces.Namespace.{Namespace}
 
 -- texts are the same where their characters are

@@ -5,17 +5,18 @@ use Rattle.query_grammar.specs.declared.syntax.Role.{Role}
 use Rattle.query_grammar.specs.Terminals.{terminal_of}
 use Rattle.query_grammar.specs.Roles.{Labelled, count_of, is_open, open_groups}
 use Rattle.query_grammar.proofs.Counts.{one-more, count-cons}
-use Rattle.sparql_parse.specs.Names.{no_declarations, names_of, names_behind, declarations_of, declarations_behind}
-use Rattle.sparql_parse.specs.Faults.{is_object, is_optional, fault_of}
-use Rattle.sparql_parse.specs.Naming.{one_more, kept_of, kept_behind, fault_behind}
+use Rattle.sparql_parse.specs.computed.Names.{no_declarations, names_of, names_after, declarations_of, declarations_after}
+use Rattle.sparql_parse.specs.Faults.{is_object, is_optional}
+use Rattle.sparql_parse.specs.computed.Faults.{fault_of}
+use Rattle.sparql_parse.specs.computed.Naming.{one_more, kept_of, kept_after, fault_after}
 
-pub names-more : (ls : List Labelled) (l : Labelled) → names_of (ls ++ l ∷ []) ≡ names_behind (names_of ls) (terminal_of l.token) l.token
+pub names-more : (ls : List Labelled) (l : Labelled) → names_of (ls ++ l ∷ []) ≡ names_after (names_of ls) (terminal_of l.token) l.token
 unfolding names_of
-names-more ls l = fold-append (λ names (m : Labelled). names_behind names (terminal_of m.token) m.token) [] ls (l ∷ [])
+names-more ls l = fold-append (λ names (m : Labelled). names_after names (terminal_of m.token) m.token) [] ls (l ∷ [])
 
-pub declarations-more : (ls : List Labelled) (l : Labelled) → declarations_of (ls ++ l ∷ []) ≡ declarations_behind (declarations_of ls) l.role l.token
+pub declarations-more : (ls : List Labelled) (l : Labelled) → declarations_of (ls ++ l ∷ []) ≡ declarations_after (declarations_of ls) l.role l.token
 unfolding declarations_of
-declarations-more ls l = fold-append (λ d (m : Labelled). declarations_behind d m.role m.token) no_declarations ls (l ∷ [])
+declarations-more ls l = fold-append (λ d (m : Labelled). declarations_after d m.role m.token) no_declarations ls (l ∷ [])
 
 pub count-more : (is_such : Role → Bool) (ls : List Labelled) (l : Labelled) → count_of is_such (ls ++ l ∷ []) ≡ one_more is_such (count_of is_such ls) l.role
 count-more is_such [] l = refl
@@ -28,10 +29,10 @@ count-more is_such (m ∷ ls) l =
     omega arith
 
 -- what is kept behind one token more
-pub kept-more : (ls : List Labelled) (l : Labelled) → kept_of (ls ++ l ∷ []) ≡ kept_behind (kept_of ls) l
+pub kept-more : (ls : List Labelled) (l : Labelled) → kept_of (ls ++ l ∷ []) ≡ kept_after (kept_of ls) l
 kept-more ls l = rw (names-more ls l, declarations-more ls l, count-more is_object ls l, count-more is_optional ls l, count-more is_open ls l) refl
 
 -- the fault of a token is told by what is kept of those before it
-pub fault-kept : (ls : List Labelled) (l : Labelled) → fault_of ls l ≡ fault_behind (kept_of ls) (open_groups (ls ++ l ∷ [])) l
-unfolding fault_of fault_behind
+pub fault-kept : (ls : List Labelled) (l : Labelled) → fault_of ls l ≡ fault_after (kept_of ls) (open_groups (ls ++ l ∷ [])) l
+unfolding fault_of fault_after
 fault-kept ls l = rw (names-more ls l, count-more is_object ls l, count-more is_optional ls l, count-more is_open ls l) refl

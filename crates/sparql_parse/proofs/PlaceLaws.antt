@@ -3,12 +3,12 @@ use Rattle.std.proofs.Common.{◌≡◌, ◌≢◌, ℕ, Result, Ok, Err, List, 
 use Rattle.std.specs.Prelude.{IfOk}
 use Rattle.std.proofs.lemmas.List.Folds.{list_all-append}
 use Rattle.std.specs.Cmp.Derive.{both_true}
-use Rattle.bm_term.specs.Classes.{is_irichar}
+use Rattle.rdf_text.specs.Classes.{is_irichar}
 use Rattle.query_tokens.specs.Token.{Lexeme}
 use Rattle.query_tokens.specs.declared.token.TokenKind.{TokenKind}
 use Rattle.query_tokens.specs.declared.token.TokenKind.TheVariants as kinds
-use Rattle.query_values.specs.Values.{AreIriChars, IsSpelled, iri_of, local_of, prefixed_iri}
-use Rattle.sparql_parse.specs.Meaning.{Scope, iri_of_kind, iri_in}
+use Rattle.query_values.specs.reading.Values.{AreIriChars, IsSpelled, iri_of, local_of, prefixed_iri}
+use Rattle.sparql_parse.specs.computed.Meaning.{Scope, iri_of_kind, iri_in}
 use Rattle.query_values.proofs.SpelledValues.{local_of-irichars}
 
 pub ok_irichars : {A E : Type 0} (f : A → List ℕ) (result : Result A E) (is : List ℕ) → AreIriChars is → IfOk result (λ a. f a ≡ is) → IfOk result (λ a. AreIriChars (f a))

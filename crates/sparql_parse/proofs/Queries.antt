@@ -5,9 +5,9 @@ use Rattle.query_grammar.specs.Roles.{Labelled}
 use Rattle.query_grammar.specs.Tree.{Node, Columns, AllColumns, Variables, Syntax}
 use Rattle.query_grammar.specs.Grammar.{IsQuery, SpellsQuery}
 use Rattle.alg_model.specs.Pattern.{Algebra, Bgp}
-use Rattle.query_values.specs.Values.{name_of}
-use Rattle.sparql_parse.specs.Meaning.{Scope, number_of, with_number, empty_group, with_block, with_parts, pattern_of, columns_of}
-use Rattle.sparql_parse.specs.Building.{State, Head, Body, IsBuilt, built, start, with_object, columns_behind, next_settled, no_columns}
+use Rattle.query_values.specs.reading.Values.{name_of}
+use Rattle.sparql_parse.specs.computed.Meaning.{Scope, number_of, with_number, empty_group, with_block, with_parts, pattern_of, columns_of}
+use Rattle.sparql_parse.specs.computed.Building.{State, Head, Body, IsBuilt, built, start, with_object, columns_after, next_settled, no_columns}
 use Rattle.sparql_parse.proofs.Counting.{with_object-next}
 use Rattle.sparql_parse.proofs.Runs.{after_columns, after_variables, after_distinct, query-does}
 use Rattle.sparql_parse.proofs.Translations.{group-whole, group-head, group-next}
@@ -31,7 +31,7 @@ variables-head scope (token ∷ tokens) t = variables-head scope tokens (after_c
 
 pub record HeadIs (scope : Scope) (columns : Columns) (distinct : Bool) (head : Head) : Type 0 where
   pub distinct_is : head.distinct ≡ distinct
-  pub columns_are : (pattern : Algebra) → columns_behind pattern head ≡ columns_of scope pattern columns
+  pub columns_are : (pattern : Algebra) → columns_after pattern head ≡ columns_of scope pattern columns
 
 columns-head : (scope : Scope) (columns : Columns) (distinct : Bool) (t : State) → t.head ≡ record { distinct = distinct; all = false; columns = [] } →
     HeadIs scope columns distinct (after_columns scope columns t).head
@@ -40,7 +40,7 @@ columns-head scope (Variables tokens) distinct t e =
     let numbers = map (λ (token : Lexeme). number_of scope.names (name_of token)) tokens in
     let is : (after_variables scope tokens t).head ≡ record { distinct = distinct; all = false; columns = fold with_number [] numbers } =
     variables-head scope tokens t ∙ ap (λ (h : Head). record { distinct = h.distinct; all = h.all; columns = fold with_number h.columns numbers }) e in
-    record { distinct_is = ap (λ (h : Head). h.distinct) is; columns_are = λ pattern. ap (columns_behind pattern) is }
+    record { distinct_is = ap (λ (h : Head). h.distinct) is; columns_are = λ pattern. ap (columns_after pattern) is }
 
 distinct-head : (distinct : Bool) (t : State) → t.head ≡ no_columns → (after_distinct distinct t).head ≡ record { distinct = distinct; all = false; columns = [] }
 distinct-head true t e = ap (λ (h : Head). record { distinct = true; all = h.all; columns = h.columns }) e
@@ -74,7 +74,7 @@ spelled-built scope tree labelled spelled =
     let state_head : state.head ≡ t.head = ap (λ (x : State). x.head) run ∙ end_head in
     record {
       pattern = ap (λ (x : State). x.body.whole) run ∙ end_whole;
-      columns = ap (columns_behind state.body.whole) state_head ∙ head.columns_are state.body.whole;
+      columns = ap (columns_after state.body.whole) state_head ∙ head.columns_are state.body.whole;
       distinct = ap (λ (h : Head). h.distinct) state_head ∙ head.distinct_is;
     }
 

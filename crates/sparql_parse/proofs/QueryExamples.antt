@@ -11,12 +11,12 @@ use Rattle.query_grammar.specs.Expecting.{next_step}
 use Rattle.query_grammar.specs.Words.{unsupported_word}
 use Rattle.query_grammar.specs.declared.words.Word.TheVariants as words
 use Rattle.alg_model.specs.Pattern.{Bgp}
-use Rattle.query_values.specs.Values.{name_of}
+use Rattle.query_values.specs.reading.Values.{name_of}
 use Rattle.sparql_parse.specs.declared.fault.QueryFault.TheVariants as faults
-use Rattle.sparql_parse.specs.Names.{names_of, namespace_with, namespace_of, declarations_of}
-use Rattle.sparql_parse.specs.Faults.{fault_of}
-use Rattle.sparql_parse.specs.Building.{step}
-use Rattle.sparql_parse.specs.Reading.{and_then, first, read_on, read_next, query_of, query_at_end}
+use Rattle.sparql_parse.specs.computed.Names.{names_of, namespace_with, namespace_of, declarations_of}
+use Rattle.sparql_parse.specs.computed.Faults.{fault_of}
+use Rattle.sparql_parse.specs.computed.Building.{step}
+use Rattle.sparql_parse.specs.computed.Reading.{and_then, first, read_on, read_next, query_of, query_at_end}
 
 abbrev token : Role → TokenKind → List ℕ → Labelled
 token role kind text = with_role role (record { kind = kind; text = text; at = 7 })

@@ -8,12 +8,12 @@ use Rattle.query_grammar.specs.Terminals.{terminal_of}
 use Rattle.query_grammar.specs.Roles.{Labelled, count_of}
 use Rattle.query_grammar.specs.Tree.{Syntax}
 use Rattle.query_grammar.specs.Grammar.{IsQuery}
-use Rattle.alg_model.specs.Pattern.{vars_of}
-use Rattle.alg_model.specs.Limits.{triple_patterns, PatternKeepsLimits}
-use Rattle.query_values.specs.Values.{name_of}
-use Rattle.sparql_parse.specs.Names.{is_text, with_name, names_behind, names_of}
+use Rattle.alg_model.specs.Pattern.{vars_of, triple_patterns}
+use Rattle.alg_model.specs.Limits.{PatternKeepsLimits}
+use Rattle.query_values.specs.reading.Values.{name_of}
+use Rattle.sparql_parse.specs.computed.Names.{is_text, with_name, names_after, names_of}
 use Rattle.sparql_parse.specs.Faults.{is_object, is_optional}
-use Rattle.sparql_parse.specs.Meaning.{Scope, with_number, pattern_of}
+use Rattle.sparql_parse.specs.computed.Meaning.{Scope, with_number, pattern_of}
 use Rattle.sparql_parse.proofs.LimitLaws.{AreNumbered-range, group-numbered, pattern-optionals, pattern-triples}
 use Rattle.sparql_parse.proofs.VarLaws.{AreBelow, AreBelow-All, AreBelow-append, AreFine, pattern-vars}
 
@@ -29,21 +29,21 @@ with_name-some : (names : List (List ℕ)) (name : List ℕ) → 0 < length (wit
 with_name-some [] name = omega arith
 with_name-some (first ∷ names) name = let h = with_name-grows (first ∷ names) name in omega arith
 
-names_behind-grows : (names : List (List ℕ)) (terminal : Terminal) (token : Lexeme) → length names ≤ length (names_behind names terminal token)
-names_behind-grows names terminals.Variable token = with_name-grows names (name_of token)
-names_behind-grows names _ token = omega arith
+names_after-grows : (names : List (List ℕ)) (terminal : Terminal) (token : Lexeme) → length names ≤ length (names_after names terminal token)
+names_after-grows names terminals.Variable token = with_name-grows names (name_of token)
+names_after-grows names _ token = omega arith
 
-names_behind-some : (names : List (List ℕ)) (terminal : Terminal) (token : Lexeme) → terminal ≡ terminals.Variable → 0 < length (names_behind names terminal token)
-names_behind-some names terminal token e =
-    subst (λ (t : Terminal). 0 < length (names_behind names t token)) (sym e) (with_name-some names (name_of token))
+names_after-some : (names : List (List ℕ)) (terminal : Terminal) (token : Lexeme) → terminal ≡ terminals.Variable → 0 < length (names_after names terminal token)
+names_after-some names terminal token e =
+    subst (λ (t : Terminal). 0 < length (names_after names t token)) (sym e) (with_name-some names (name_of token))
 
 abbrev behind : List (List ℕ) → Labelled → List (List ℕ)
-behind names l = names_behind names (terminal_of l.token) l.token
+behind names l = names_after names (terminal_of l.token) l.token
 
 fold-grows : (names : List (List ℕ)) (ls : List Labelled) → length names ≤ length (fold behind names ls)
 fold-grows names [] = omega arith
 fold-grows names (l ∷ ls) =
-    let here = names_behind-grows names (terminal_of l.token) l.token in
+    let here = names_after-grows names (terminal_of l.token) l.token in
     let rest = fold-grows (behind names l) ls in
     omega arith
 
@@ -51,7 +51,7 @@ fold-fine : (n : ℕ) (names : List (List ℕ)) (ls : List Labelled) → length 
 fold-fine n names [] within = tt
 fold-fine n names (l ∷ ls) within =
     let grows = fold-grows (behind names l) ls in
-    (λ e. let some = names_behind-some names (terminal_of l.token) l.token e in omega arith, fold-fine n (behind names l) ls within)
+    (λ e. let some = names_after-some names (terminal_of l.token) l.token e in omega arith, fold-fine n (behind names l) ls within)
 
 pub names-fine : (ls : List Labelled) → AreFine (length (names_of ls)) ls
 unfolding names_of

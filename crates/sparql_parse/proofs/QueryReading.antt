@@ -17,22 +17,23 @@ use Rattle.query_grammar.specs.Expecting.{Reading}
 use Rattle.query_grammar.proofs.GrammarLaws.{IsReadToEnd-query}
 use Rattle.alg_model.specs.declared.var.Var.{Var}
 use Rattle.alg_model.specs.Pattern.{Algebra, algebra_of}
-use Rattle.alg_model.specs.Answers.{AbstractQuery}
+use Rattle.alg_model.specs.Query.{AbstractQuery}
 use Rattle.sparql_parse.specs.declared.build.ReadToken.{ReadToken}
 use Rattle.sparql_parse.specs.declared.build.Translation.{Translation}
 use Rattle.sparql_parse.specs.declared.fault.QueryFault.{QueryFault}
 use Rattle.sparql_parse.specs.declared.fault.QueryFault.TheVariants as faults
-use Rattle.query_values.specs.Values.{IsSpelled}
-use Rattle.sparql_parse.specs.Names.{names_of}
-use Rattle.sparql_parse.specs.Naming.{Kept}
-use Rattle.sparql_parse.specs.Scopes.{scope_in}
-use Rattle.sparql_parse.specs.Meaning.{columns_of}
-use Rattle.sparql_parse.specs.Building.{IsBuilt, built, columns_behind}
-use Rattle.sparql_parse.specs.Building as building
-use Rattle.sparql_parse.specs.Builds.{IsTranslation, labelled_in}
-use Rattle.sparql_parse.specs.Denotes.{IsMeantBy, scope_of}
-use Rattle.sparql_parse.specs.Reading.{and_then, first, is_end, query_at_end, query_of, query_reading, read_on, text_reading, var_of}
-use Rattle.sparql_parse.specs.Readers.{IsKeptOf}
+use Rattle.query_values.specs.reading.Values.{IsSpelled}
+use Rattle.sparql_parse.specs.computed.Names.{names_of}
+use Rattle.sparql_parse.specs.computed.Naming.{Kept}
+use Rattle.sparql_parse.specs.held.Scopes.{scope_in}
+use Rattle.sparql_parse.specs.computed.Meaning.{columns_of}
+use Rattle.sparql_parse.specs.computed.Building.{IsBuilt, built, columns_after}
+use Rattle.sparql_parse.specs.computed.Building as building
+use Rattle.sparql_parse.specs.held.Builds.{IsTranslation, labelled_in}
+use Rattle.sparql_parse.proofs.ComputedDenotes.{IsMeantBy}
+use Rattle.sparql_parse.specs.computed.Meaning.{scope_of}
+use Rattle.sparql_parse.specs.computed.Reading.{and_then, first, is_end, query_at_end, query_of, query_reading, read_on, text_reading, var_of}
+use Rattle.sparql_parse.specs.held.Readers.{IsKeptOf}
 use Rattle.sparql_parse.proofs.Queries.{query-built}
 use Rattle.sparql_parse.proofs.SourceReading.{tokens_read-is}
 
@@ -54,7 +55,7 @@ numbers-back : (numbers : List ℕ) → map (λ (column : Var). column.0) (map v
 numbers-back [] = refl
 numbers-back (n ∷ numbers) = ap (λ ns. n ∷ ns) (numbers-back numbers)
 
-query_of-is : (ls : List Labelled) → query_of ls ≡ query_with (names_of ls) (built (scope_of ls) building.start ls).body.whole (map var_of (columns_behind (built (scope_of ls) building.start ls).body.whole (built (scope_of ls) building.start ls).head)) (built (scope_of ls) building.start ls).head.distinct
+query_of-is : (ls : List Labelled) → query_of ls ≡ query_with (names_of ls) (built (scope_of ls) building.start ls).body.whole (map var_of (columns_after (built (scope_of ls) building.start ls).body.whole (built (scope_of ls) building.start ls).head)) (built (scope_of ls) building.start ls).head.distinct
 unfolding query_of
 query_of-is ls = refl
 
@@ -64,7 +65,7 @@ query-meant ls tree query =
     let scope = scope_of ls in
     let s = built scope building.start ls in
     let b : IsBuilt scope tree s = query-built scope tree ls query in
-    let columns = columns_behind s.body.whole s.head in
+    let columns = columns_after s.body.whole s.head in
     let is : IsMeantBy tree ls (query_with (names_of ls) s.body.whole (map var_of columns) s.head.distinct) =
     record { names = refl; pattern = b.pattern; columns = numbers-back columns ∙ b.columns; distinct = b.distinct } in
     subst (IsMeantBy tree ls) (sym (query_of-is ls)) is

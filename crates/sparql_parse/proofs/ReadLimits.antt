@@ -9,16 +9,17 @@ use Rattle.query_grammar.proofs.GrammarLaws.{IsReadToEnd-query}
 use Rattle.alg_model.specs.declared.var.Var.{Var}
 use Rattle.alg_model.specs.declared.query.Query.{Query}
 use Rattle.alg_model.specs.Pattern.{Algebra, algebra_of}
-use Rattle.alg_model.specs.Answers.{abstract_of}
+use Rattle.alg_model.specs.Query.{abstract_of}
 use Rattle.alg_model.specs.Limits.{KeepsLimits}
-use Rattle.query_values.specs.Values.{IsSpelled}
+use Rattle.query_values.specs.reading.Values.{IsSpelled}
 use Rattle.sparql_parse.specs.declared.build.Translation.{Translation}
-use Rattle.sparql_parse.specs.Naming.{Kept}
-use Rattle.sparql_parse.specs.Scopes.{scope_in}
-use Rattle.sparql_parse.specs.Meaning.{columns_of}
-use Rattle.sparql_parse.specs.Builds.{IsTranslation}
-use Rattle.sparql_parse.specs.Denotes.{scope_of, IsMeantBy}
-use Rattle.sparql_parse.specs.Readers.{IsKeptOf}
+use Rattle.sparql_parse.specs.computed.Naming.{Kept}
+use Rattle.sparql_parse.specs.held.Scopes.{scope_in}
+use Rattle.sparql_parse.specs.computed.Meaning.{columns_of}
+use Rattle.sparql_parse.specs.held.Builds.{IsTranslation}
+use Rattle.sparql_parse.specs.computed.Meaning.{scope_of}
+use Rattle.sparql_parse.proofs.ComputedDenotes.{IsMeantBy}
+use Rattle.sparql_parse.specs.held.Readers.{IsKeptOf}
 use Rattle.sparql_parse.proofs.KeptLimits.{keeps-limits}
 use Rattle.sparql_parse.proofs.NameTexts.{AreSpelled}
 

@@ -20,28 +20,16 @@ use Rattle.query_grammar.specs.Expecting.{start, step_at, next_step, Reading, re
 use Rattle.query_grammar.proofs.Runs.{read-last, read-nothing}
 use Rattle.query_grammar.proofs.Depth.{groups-open_groups}
 use Rattle.sparql_parse.specs.declared.fault.QueryFault.{QueryFault}
-use Rattle.query_values.specs.Values.{IsSpelled}
-use Rattle.sparql_parse.specs.Faults.{fault_of}
-use Rattle.sparql_parse.specs.Naming.{Kept, kept_of, kept_behind, fault_behind, IsWithin}
-use Rattle.sparql_parse.specs.Names.{names_of}
+use Rattle.query_values.specs.reading.Values.{IsSpelled}
+use Rattle.sparql_parse.specs.computed.Faults.{fault_of}
+use Rattle.sparql_parse.specs.computed.Naming.{Kept, kept_of, kept_after, fault_after, IsWithin}
+use Rattle.sparql_parse.specs.computed.Names.{names_of}
 use Rattle.sparql_parse.specs.Denotes.{word_fault}
-use Rattle.sparql_parse.specs.Reading.{read_on, and_then, read_step, read_next, unless_fault}
-use Rattle.sparql_parse.specs.Readers.{IsKeptOf, IsSpelledOrBad}
+use Rattle.sparql_parse.specs.computed.Reading.{read_on, and_then, read_step, read_next, unless_fault}
+use Rattle.sparql_parse.specs.held.Readers.{IsKeptOf}
+use Rattle.query_values.specs.reading.Values.{IsSpelledOrBad}
 use Rattle.sparql_parse.proofs.NameLaws.{no_fault-within, no_fault-shallow}
 use Rattle.sparql_parse.proofs.NamingLaws.{kept-more, fault-kept}
-
--- a token of no terminal symbol is not read
-other-unread : (e : Expect) (n : ℕ) → step_at e n terminals.Other ≡ None
-other-unread e n =
-    elim e as (λ x. step_at x n terminals.Other ≡ None) [ expects.Prologue ↦ refl | expects.DeclaredPrefix ↦ refl | expects.Namespace ↦ refl | expects.Projection ↦ refl | expects.Columns ↦ refl | expects.MoreColumns ↦ refl | expects.WhereOrGroup ↦ refl | expects.Group ↦ refl | expects.Block ↦ refl | expects.AfterElement ↦ refl | expects.AfterSubjectString ↦ refl | expects.SubjectDatatype ↦ refl | expects.Verb ↦ refl | expects.Object ↦ refl | expects.AfterObjectString ↦ refl | expects.ObjectDatatype ↦ refl | expects.AfterObject ↦ refl | expects.AfterSemicolon ↦ refl | expects.End ↦ refl ]
-
-bad-unread : (s : State) (token : Lexeme) → token.kind ≡ kinds.Bad → next_step s (terminal_of token) ≡ None
-unfolding next_step terminal_of
-bad-unread s token bad = ap (λ (k : TokenKind). step_at s.expect s.groups (terminal_of_text k token.text)) bad ∙ other-unread s.expect s.groups
-
-pub read-spelled : (s : State) (token : Lexeme) (step : Step) → next_step s (terminal_of token) ≡ Some step → IsSpelledOrBad token → IsSpelled token
-read-spelled s token step is (inl bad) = let both : None ≡ Some step = sym (bad-unread s token bad) ∙ is in absurd (cc)
-read-spelled s token step is (inr spelled) = spelled
 
 abbrev pub reading_at : List Labelled → State → Reading
 reading_at labelled state = record { labelled = labelled; state = state }
@@ -55,23 +43,23 @@ run-more ls s token step run is =
 
 -- the fault of a token that the grammar reads, by what is kept
 pub fault-step : (ls : List Labelled) (s : State) (k : Kept) (token : Lexeme) (step : Step) → IsKeptOf ls s k → next_step s (terminal_of token) ≡ Some step →
-    fault_of ls (with_role step.role token) ≡ fault_behind k step.state.groups (with_role step.role token)
+    fault_of ls (with_role step.role token) ≡ fault_after k step.state.groups (with_role step.role token)
 fault-step ls s k token step is_kept is =
     let l = with_role step.role token in
     let run = run-more ls s token step is_kept.run is in
     let depth : step.state.groups ≡ open_groups (ls ++ l ∷ []) = groups-open_groups (tokens_of (ls ++ l ∷ [])) (reading_at (ls ++ l ∷ []) step.state) run in
     fault-kept ls l
-    ∙ ap (λ n. fault_behind (kept_of ls) n l) (sym depth)
-    ∙ ap (λ (kept : Kept). fault_behind kept step.state.groups l) (sym is_kept.same)
+    ∙ ap (λ n. fault_after (kept_of ls) n l) (sym depth)
+    ∙ ap (λ (kept : Kept). fault_after kept step.state.groups l) (sym is_kept.same)
 
 pub kept-step : (ls : List Labelled) (s : State) (k : Kept) (token : Lexeme) (step : Step) → IsKeptOf ls s k → next_step s (terminal_of token) ≡ Some step →
-    fault_behind k step.state.groups (with_role step.role token) ≡ None → IsSpelled token →
-    IsKeptOf (ls ++ with_role step.role token ∷ []) step.state (kept_behind k (with_role step.role token))
+    fault_after k step.state.groups (with_role step.role token) ≡ None → IsSpelled token →
+    IsKeptOf (ls ++ with_role step.role token ∷ []) step.state (kept_after k (with_role step.role token))
 kept-step ls s k token step is_kept is none spelled =
     let l = with_role step.role token in
     record {
       run = run-more ls s token step is_kept.run is;
-      same = ap (λ (kept : Kept). kept_behind kept l) is_kept.same ∙ sym (kept-more ls l);
+      same = ap (λ (kept : Kept). kept_after kept l) is_kept.same ∙ sym (kept-more ls l);
       shallow = no_fault-shallow k step.state.groups l none;
       within = no_fault-within k step.state.groups l none;
       spelled = All-append (λ (m : Labelled). IsSpelled m.token) ls (l ∷ []) is_kept.spelled (All-cons (λ (m : Labelled). IsSpelled m.token) l [] spelled (All-nil (λ (m : Labelled). IsSpelled m.token)));
@@ -82,18 +70,18 @@ pub next-unread : (r : Reading) (token : Lexeme) → next_step r.state (terminal
 unfolding read_next
 next-unread r token is = ap (read_step r token) is
 
-abbrev pub reading_behind : Reading → Lexeme → Step → Reading
-reading_behind r token step = record { labelled = r.labelled ++ with_role step.role token ∷ []; state = step.state }
+abbrev pub reading_after : Reading → Lexeme → Step → Reading
+reading_after r token step = record { labelled = r.labelled ++ with_role step.role token ∷ []; state = step.state }
 
 pub next-read : (r : Reading) (token : Lexeme) (step : Step) → next_step r.state (terminal_of token) ≡ Some step → fault_of r.labelled (with_role step.role token) ≡ None →
-    read_next r token ≡ Ok (reading_behind r token step)
+    read_next r token ≡ Ok (reading_after r token step)
 unfolding read_next
-next-read r token step is none = ap (read_step r token) is ∙ ap (unless_fault (reading_behind r token step)) none
+next-read r token step is none = ap (read_step r token) is ∙ ap (unless_fault (reading_after r token step)) none
 
 pub next-fault : (r : Reading) (token : Lexeme) (step : Step) (fault : QueryFault) → next_step r.state (terminal_of token) ≡ Some step → fault_of r.labelled (with_role step.role token) ≡ Some fault →
     read_next r token ≡ Err fault
 unfolding read_next
-next-fault r token step fault is some = ap (read_step r token) is ∙ ap (unless_fault (reading_behind r token step)) some
+next-fault r token step fault is some = ap (read_step r token) is ∙ ap (unless_fault (reading_after r token step)) some
 
 -- before the first token
 names-none : names_of [] ≡ []

@@ -10,8 +10,8 @@ use Rattle.query_grammar.specs.Terminals.{terminal_of}
 use Rattle.query_grammar.specs.Roles.{Labelled, with_role}
 use Rattle.query_grammar.specs.Tree.{Node, VariableNode, IriNode, StringNode, TaggedNode, TypedNode, NumberNode, BooleanNode, TypeNode, Property, Same, Parts, NoParts, OptionalPart, NestedPart, Group, Declaration, Columns, AllColumns, Variables, Syntax}
 use Rattle.query_grammar.specs.Grammar.{Spelling, ◌▸◌, Nothing, Maybe, Many, none, more, Token, SomeToken, Keyword, IsIri, IsNode, IsVerb, AreMoreObjects, AreObjects, IsProperty, AreMoreProperties, AreProperties, IsSame, AreMoreSames, IsBlock, InBraces, AreParts, IsGroup, AreMoreVariables, AreColumns, IsDistinct, IsDeclaration, IsPrologue, SpellsQuery}
-use Rattle.sparql_parse.specs.Meaning.{Scope}
-use Rattle.sparql_parse.specs.Building.{State, step, in_role, built, settled, opened, closed, with_triple, with_column}
+use Rattle.sparql_parse.specs.computed.Meaning.{Scope}
+use Rattle.sparql_parse.specs.computed.Building.{State, step, in_role, built, settled, opened, closed, with_triple, with_column}
 
 step-in : (scope : Scope) (s : State) (role : Role) (token : Lexeme) → step scope s (with_role role token) ≡ in_role scope s role (terminal_of token) token
 unfolding step

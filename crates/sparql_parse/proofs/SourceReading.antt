@@ -1,22 +1,23 @@
 -- The tokens that are read of a source are its tokens.
 use Rattle.std.proofs.Common.{◌≡◌, ℕ, zero, suc, ◌+◌, ◌<◌, ◌≤◌, if◌then◌else◌, List, [], ◌∷◌, ◌++◌, length, refl, ap, ◌∙◌, sym, subst, arith, append-nil, length-append}
 use Rattle.std.specs.Str.{chars, encode_utf8_all}
-use Rattle.bm_term.specs.Text.{before}
-use Rattle.bm_term.proofs.TextLemmas.{before-append}
+use Rattle.rdf_text.specs.scanning.Text.{before}
+use Rattle.rdf_text.proofs.TextLemmas.{before-append}
 use Rattle.query_tokens.specs.Token.{Lexeme}
-use Rattle.query_tokens.specs.Blanks.{AreBlanks, after_blanks}
+use Rattle.query_tokens.specs.Blanks.{AreBlanks}
+use Rattle.query_tokens.specs.scanning.Blanks.{after_blanks}
 use Rattle.query_tokens.specs.Tokens.{BeginsWithToken, IsNextToken, AreTokensFrom, AreTokens}
-use Rattle.query_tokens.specs.Scanning.{read_or_bad}
+use Rattle.query_tokens.specs.scanning.Tokens.{scan_or_bad}
 use Rattle.query_tokens.proofs.BlankRuns.{blanks-split}
-use Rattle.query_tokens.proofs.TokenLists.{read_or_bad-stands, blanks_longest}
+use Rattle.query_tokens.proofs.TokenLists.{scan_or_bad-stands, blanks_longest}
 use Rattle.query_tokens.proofs.OneList.{one_list}
-use Rattle.sparql_parse.specs.Reading.{is_nothing, token_before, tokens_from, tokens_read}
+use Rattle.sparql_parse.specs.computed.Reading.{is_nothing, token_before, tokens_from, tokens_read}
 
 abbrev token_at : ℕ → List ℕ → Lexeme
-token_at at whole = token_before (at + length (encode_utf8_all (before whole (after_blanks whole)))) (after_blanks whole) (read_or_bad (after_blanks whole))
+token_at at whole = token_before (at + length (encode_utf8_all (before whole (after_blanks whole)))) (after_blanks whole) (scan_or_bad (after_blanks whole))
 
 abbrev behind : List ℕ → List ℕ
-behind whole = (read_or_bad (after_blanks whole)).1
+behind whole = (scan_or_bad (after_blanks whole)).1
 
 record Next (at : ℕ) (whole : List ℕ) : Type 0 where
   next : IsNextToken at whole (token_at at whole) (behind whole)
@@ -26,8 +27,8 @@ next_stands : (at : ℕ) (whole : List ℕ) → 0 < length (after_blanks whole) 
 next_stands at whole long =
     let (front, are, split) = blanks-split whole in
     let rest = after_blanks whole in
-    let found = read_or_bad rest in
-    let stands = read_or_bad-stands rest long in
+    let found = scan_or_bad rest in
+    let stands = scan_or_bad-stands rest long in
     let front_is : before whole rest ≡ front = ap (λ w. before w rest) split ∙ before-append front rest in
     let text_is : before rest found.1 ≡ stands.text = ap (λ w. before w found.1) stands.split ∙ before-append stands.text found.1 in
     let begins : BeginsWithToken (at + length (encode_utf8_all front)) rest (token_at at whole) found.1 =

@@ -6,8 +6,9 @@ use Rattle.query_grammar.specs.Tree.{Node, Property, Same, Parts, NoParts, Optio
 use Rattle.query_grammar.specs.Grammar.{AreObjects, AreProperties, IsSame, IsBlock, AreParts, IsGroup}
 use Rattle.alg_model.specs.declared.pattern.TriplePat.{TriplePat}
 use Rattle.alg_model.specs.Pattern.{Algebra, Bgp, Join, LeftJoin}
-use Rattle.sparql_parse.specs.Meaning.{Scope, NodeTriple, Translated, triples_of_property, triples_of_same, triples_of_block, patterns_from, empty_group, with_block, with_parts, pattern_of}
-use Rattle.sparql_parse.specs.Building.{State, Head, Body, OpenGroup, new_group, joined_block, pattern_so_far, combined, with_pattern, pattern_at, with_triple}
+use Rattle.sparql_parse.specs.computed.Meaning.{Scope, Translated, patterns_from, empty_group, with_block, with_parts, pattern_of}
+use Rattle.sparql_parse.specs.Translation.{NodeTriple, triples_of_property, triples_of_same, triples_of_block}
+use Rattle.sparql_parse.specs.computed.Building.{State, Head, Body, OpenGroup, new_group, joined_block, pattern_so_far, combined, with_pattern, pattern_at, with_triple}
 use Rattle.sparql_parse.proofs.Runs.{after_object, after_objects, after_property, after_properties, after_same, after_block, after_optional, after_open, after_close, after_inside, after_parts, after_group}
 
 -- triple patterns at the end of the innermost group's block
@@ -204,7 +205,7 @@ module _ (scope : Scope) (head : Head) (whole : Algebra) where
       let h = within.group in
       let is = within.is in
       let e : OpenGroup = record { pattern = combined h.optional (pattern_so_far g) (pattern_so_far h); block = []; optional = g.optional } in
-      let body : (after_close t).body ≡ in_group e gs inner.next whole = ap Rattle.sparql_parse.specs.Building.closed is.body_is in
+      let body : (after_close t).body ≡ in_group e gs inner.next whole = ap Rattle.sparql_parse.specs.computed.Building.closed is.body_is in
       let pattern : combined h.optional (pattern_so_far g) (pattern_so_far h) ≡ combined inner_optional so_far.pattern inner.pattern =
       ap (λ (o : Bool). combined o (pattern_so_far g) (pattern_so_far h)) is.optional_is
       ∙ ap (λ (p : Algebra). combined inner_optional p (pattern_so_far h)) pattern_is
@@ -263,7 +264,7 @@ group-whole scope group from to t whole (a, opens, (b, (c, inner, deep), closes)
     let fresh = open-fresh scope t.head whole t false [] 1 refl flag body_is in
     let first = block-within scope t.head whole (after_open t) false [] (empty_group 1) group.block fresh (block-full group.block a c inner) in
     let last = parts-within scope t.head whole group.parts (after_block scope group.block (after_open t)) false [] (with_block scope (empty_group 1) group.block) (parts-full group.parts c b deep) first in
-    ap (λ (b : Body). (Rattle.sparql_parse.specs.Building.closed b).whole) last.is.body_is ∙ last.is.pattern_is
+    ap (λ (b : Body). (Rattle.sparql_parse.specs.computed.Building.closed b).whole) last.is.body_is ∙ last.is.pattern_is
 
 -- a group leaves the SELECT clause as it is
 parts-head : (scope : Scope) (parts : Parts) (t : State) → (after_parts scope parts t).head ≡ t.head
@@ -288,4 +289,4 @@ group-next scope group from to t whole (a, opens, (b, (c, inner, deep), closes))
     let fresh = open-fresh scope t.head whole t false [] 1 refl flag body_is in
     let first = block-within scope t.head whole (after_open t) false [] (empty_group 1) group.block fresh (block-full group.block a c inner) in
     let last = parts-within scope t.head whole group.parts (after_block scope group.block (after_open t)) false [] (with_block scope (empty_group 1) group.block) (parts-full group.parts c b deep) first in
-    ap (λ (b : Body). (Rattle.sparql_parse.specs.Building.closed b).next) last.is.body_is
+    ap (λ (b : Body). (Rattle.sparql_parse.specs.computed.Building.closed b).next) last.is.body_is

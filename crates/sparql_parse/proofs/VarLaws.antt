@@ -15,10 +15,11 @@ use Rattle.query_grammar.specs.Tree.{Node, VariableNode, IriNode, StringNode, Ta
 use Rattle.query_grammar.specs.Grammar.{IsQuery}
 use Rattle.alg_model.specs.declared.pattern.TriplePat.{TriplePat}
 use Rattle.alg_model.specs.Pattern.{Algebra, place_vars, triple_vars, vars_of}
-use Rattle.query_values.specs.Values.{name_of}
-use Rattle.sparql_parse.specs.Names.{is_text}
-use Rattle.sparql_parse.specs.Meaning.{Scope, NodeTriple, number_of, place_of, pattern_of}
-use Rattle.sparql_parse.specs.Building.{State, Body, OpenGroup, step, in_role, built, start, with_object, body_of, closed_groups, amended, in_innermost, joined_block, pattern_so_far, combined, pattern_at, with_tag, with_tag_text, with_iri, with_datatype, node_of}
+use Rattle.query_values.specs.reading.Values.{name_of}
+use Rattle.sparql_parse.specs.computed.Names.{is_text}
+use Rattle.sparql_parse.specs.computed.Meaning.{Scope, number_of, place_of, pattern_of}
+use Rattle.sparql_parse.specs.Translation.{NodeTriple}
+use Rattle.sparql_parse.specs.computed.Building.{State, Body, OpenGroup, step, in_role, built, start, with_object, body_of, closed_groups, amended, in_innermost, joined_block, pattern_so_far, combined, pattern_at, with_tag, with_tag_text, with_iri, with_datatype, node_of}
 use Rattle.sparql_parse.proofs.Queries.{query-built}
 
 -- all numbers are below n

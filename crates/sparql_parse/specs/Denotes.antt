@@ -3,30 +3,30 @@ use Rattle.std.specs.Prelude.{◌≡◌, ℕ, List, [], ◌∷◌, ◌++◌, map
 use Rattle.std.specs.Str.{IsUtf8, IsValidUpTo}
 use Rattle.query_tokens.specs.Token.{Lexeme}
 use Rattle.query_tokens.specs.Tokens.{AreTokens}
-use Rattle.alg_model.specs.Answers.{AbstractQuery}
+use Rattle.alg_model.specs.Query.{AbstractQuery}
 use Rattle.sparql_parse.specs.declared.fault.QueryFault.{QueryFault}
 use Rattle.sparql_parse.specs.declared.fault.QueryFault.TheVariants as faults
 use Rattle.query_grammar.specs.Roles.{Labelled, tokens_of}
 use Rattle.query_grammar.specs.Tree.{Syntax}
 use Rattle.query_grammar.specs.Grammar.{IsQuery, HasFaultAt}
-use Rattle.sparql_parse.specs.Names.{names_of, namespaces_of}
-use Rattle.sparql_parse.specs.Faults.{fault_of}
-use Rattle.sparql_parse.specs.Meaning.{Scope, pattern_of, columns_of}
 use Rattle.query_grammar.specs.declared.words.Word.{Word}
 use Rattle.query_grammar.specs.Words.{unsupported_word}
-
-abbrev pub scope_of : List Labelled → Scope
-scope_of labelled = record { names = names_of labelled; namespaces = namespaces_of labelled }
+use Rattle.sparql_parse.specs.Faults.{HasFault}
+use Rattle.sparql_parse.specs.Names.{AreNames}
+use Rattle.sparql_parse.specs.Places.{Scope}
+use Rattle.sparql_parse.specs.Translation.{translated, IsPatternOf, IsNumbered, AreColumnsOf}
 
 -- no token has a fault of its prefix or of a limit
 abbrev pub HasNoFaults : List Labelled → Type 0
-HasNoFaults labelled = (before behind : List Labelled) (l : Labelled) → labelled ≡ before ++ l ∷ behind → fault_of before l ≡ None
+HasNoFaults labelled =
+    (before after : List Labelled) (l : Labelled) (fault : QueryFault) → labelled ≡ before ++ l ∷ after → ¬ HasFault before l fault
 
--- a query is what a syntax tree means
+-- a query is what a syntax tree means, of which these are the tokens in their roles
 pub record IsMeantBy (tree : Syntax) (labelled : List Labelled) (query : AbstractQuery) : Type 0 where
-  pub names : query.names ≡ names_of labelled
-  pub pattern : query.pattern ≡ pattern_of (scope_of labelled) tree.group
-  pub columns : map (λ column. column.0) query.columns ≡ columns_of (scope_of labelled) query.pattern tree.columns
+  pub names : AreNames labelled query.names
+  pub pattern : IsPatternOf (record { tokens = labelled; names = query.names }) (translated tree.group) query.pattern
+  pub numbered : IsNumbered query.pattern
+  pub columns : AreColumnsOf query.names query.pattern tree.columns (map (λ column. column.0) query.columns)
   pub distinct : query.distinct ≡ tree.distinct
 
 -- the text denotes the query
@@ -43,19 +43,19 @@ pub record Denotes (text : List ℕ) (query : AbstractQuery) : Type 0 where
 
 -- these labelled tokens begin a query
 pub record BeginsSo (labelled : List Labelled) : Type 0 where
-  pub behind : List Labelled
+  pub after : List Labelled
   pub tree : Syntax
-  pub is_query : IsQuery tree (labelled ++ behind)
+  pub is_query : IsQuery tree (labelled ++ after)
 
 -- The token has a fault of its prefix or of a limit, those before it have none, and up to it the tokens begin a query.
 pub record HasOwnFault (tokens : List Lexeme) (fault : QueryFault) : Type 0 where
   pub before : List Labelled
   pub token : Labelled
-  pub behind : List Lexeme
-  pub split : tokens ≡ tokens_of (before ++ token ∷ []) ++ behind
+  pub after : List Lexeme
+  pub split : tokens ≡ tokens_of (before ++ token ∷ []) ++ after
   pub begins : BeginsSo (before ++ token ∷ [])
   pub none_before : HasNoFaults before
-  pub is_fault : fault_of before token ≡ Some fault
+  pub has : HasFault before token fault
 
 -- what stands where the grammar does not go on: a word that is not supported, another token, or the end of the text
 abbrev pub word_fault : ℕ → Option Word → QueryFault
@@ -69,14 +69,14 @@ grammar_fault end (token ∷ tokens) = word_fault token.at (unsupported_word tok
 -- The grammar does not go on at a token, or at the end of the text, and no token before has a fault.
 pub record HasGrammarFault (text : List ℕ) (tokens : List Lexeme) (fault : QueryFault) : Type 0 where
   pub before : List Labelled
-  pub behind : List Lexeme
-  pub split : tokens ≡ tokens_of before ++ behind
+  pub after : List Lexeme
+  pub split : tokens ≡ tokens_of before ++ after
   pub begins : BeginsSo before
   pub none_before : HasNoFaults before
   pub at : HasFaultAt tokens (length before)
-  pub is_fault : fault ≡ grammar_fault (length text) behind
+  pub is_fault : fault ≡ grammar_fault (length text) after
 
--- the text has the fault: behind its longest front that is UTF-8, where that is not the whole, or the first among its tokens
+-- the text has the fault: after its longest front that is UTF-8, where that is not the whole, or the first among its tokens
 pub data IsFaultOf (text : List ℕ) (fault : QueryFault) : Type 0 where
   not_utf8 : (good : ℕ) → IsValidUpTo text good → fault ≡ faults.Syntax good → IsFaultOf text fault
   of_token : (tokens : List Lexeme) → IsUtf8 text → AreTokens text tokens → HasOwnFault tokens fault → IsFaultOf text fault

@@ -1,15 +1,15 @@
 -- The faults of a token that the grammar allows: a prefix without a declaration, and the limits of a query, which are
 -- this project's own. A fault is one of the token and of those before it.
-use Rattle.std.specs.Prelude.{ℕ, Bool, true, false, ◌&&◌, nat_lt, is_none, if◌then◌else◌, List, [], ◌∷◌, ◌++◌, length, Option, Some, None}
-use Rattle.query_tokens.specs.declared.token.TokenKind.{TokenKind}
-use Rattle.query_tokens.specs.declared.token.TokenKind.TheVariants as kinds
+use Rattle.std.specs.Prelude.{◌≡◌, ◌≢◌, ℕ, Bool, true, false, ◌<◌, ◌⊎◌, List, [], ◌∷◌, ◌++◌, length}
+use Rattle.alg_model.specs.Limits.{max_variables, max_triple_patterns, max_optionals, max_groups, max_open_groups}
 use Rattle.sparql_parse.specs.declared.fault.QueryFault.{QueryFault}
 use Rattle.sparql_parse.specs.declared.fault.QueryFault.TheVariants as faults
 use Rattle.query_grammar.specs.declared.syntax.Role.{Role}
 use Rattle.query_grammar.specs.declared.syntax.Role.TheVariants as roles
 use Rattle.query_grammar.specs.Roles.{Labelled, count_of, is_open, open_groups}
-use Rattle.query_values.specs.Values.{prefix_of}
-use Rattle.sparql_parse.specs.Names.{Namespace, names_of, namespaces_of, namespace_of}
+use Rattle.query_values.specs.Iris.{SpellsPrefixedName}
+use Rattle.sparql_parse.specs.Declarations.{IsDeclared}
+use Rattle.sparql_parse.specs.Names.{AreNames}
 
 abbrev pub is_object : Role → Bool
 is_object roles.Object = true
@@ -19,49 +19,27 @@ abbrev pub is_optional : Role → Bool
 is_optional roles.Optional = true
 is_optional _ = false
 
--- a prefix that is used as an IRI, or as the front of one, has to be declared before
-abbrev pub uses_prefix : TokenKind → Role → Bool
-uses_prefix kind roles.Declared = false
-uses_prefix kinds.Prefix role = true
-uses_prefix kinds.Prefixed role = true
-uses_prefix _ role = false
+-- the token is a prefixed name that is used as an IRI, and its prefix is not declared before it
+abbrev pub HasUnknownPrefix : List Labelled → Labelled → Type 0
+HasUnknownPrefix before l =
+    (l.role ≢ roles.Declared) × ((prefix local : List ℕ) × SpellsPrefixedName l.token prefix local × ¬ IsDeclared before prefix)
 
-abbrev pub is_unknown : List Namespace → Labelled → Bool
-is_unknown namespaces l = uses_prefix l.token.kind l.role && is_none (namespace_of namespaces (prefix_of l.token))
+-- there are more names than may be
+abbrev pub HasTooManyNames : List Labelled → Type 0
+HasTooManyNames tokens = (names : List (List ℕ)) × AreNames tokens names × (max_variables < length names)
 
--- how many there are of what has a limit
-pub record Counts : Type 0 where
-  pub names : ℕ
-  pub objects : ℕ
-  pub optionals : ℕ
-  pub depth : ℕ
-  pub groups : ℕ
+-- this, if the claim holds, and else the other
+abbrev pub IfHolds : Type 0 → Type 0 → Type 0 → Type 0
+IfHolds Claim This Other = (Claim × This) ⊎ (¬ Claim × Other)
 
-abbrev pub counts_of : List Labelled → Counts
-counts_of labelled = record {
-  names = length (names_of labelled);
-  objects = count_of is_object labelled;
-  optionals = count_of is_optional labelled;
-  depth = open_groups labelled;
-  groups = count_of is_open labelled;
-}
-
--- The limits: 64 variables, 256 triple patterns, 63 OPTIONALs, 32 groups that are open at once, 256 groups.
--- In the order in which they are looked at, at a token that begins with this byte.
-abbrev pub limit_among : ℕ → Counts → Option QueryFault
-limit_among at counts =
-    if nat_lt 64 counts.names then Some (faults.TooManyVariables at)
-    else if nat_lt 256 counts.objects then Some (faults.TooManyPatterns at)
-    else if nat_lt 63 counts.optionals then Some (faults.TooManyOptionals at)
-    else if nat_lt 32 counts.depth then Some (faults.TooDeep at)
-    else if nat_lt 256 counts.groups then Some (faults.TooManyGroups at)
-    else None
-
--- a prefix comes before the limits
-abbrev pub fault_among : List Namespace → Labelled → Counts → Option QueryFault
-fault_among namespaces l counts =
-    if is_unknown namespaces l then Some (faults.UnknownPrefix l.token.at) else limit_among l.token.at counts
-
--- the fault of a token behind some others, none of which has one: prefixes are declared before it, and it counts itself
-unfoldable pub fault_of : List Labelled → Labelled → Option QueryFault
-fault_of before l = fault_among (namespaces_of before) l (counts_of (before ++ l ∷ []))
+-- The fault of a token after others, none of which has one: the first of these that holds. The token counts itself.
+abbrev pub HasFault : List Labelled → Labelled → QueryFault → Type 0
+HasFault before l fault =
+    let tokens = before ++ l ∷ [] in
+    let at = l.token.at in
+    IfHolds (HasUnknownPrefix before l) (fault ≡ faults.UnknownPrefix at)
+    (IfHolds (HasTooManyNames tokens) (fault ≡ faults.TooManyVariables at)
+    (IfHolds (max_triple_patterns < count_of is_object tokens) (fault ≡ faults.TooManyPatterns at)
+    (IfHolds (max_optionals < count_of is_optional tokens) (fault ≡ faults.TooManyOptionals at)
+    (IfHolds (max_open_groups < open_groups tokens) (fault ≡ faults.TooDeep at)
+    ((max_groups < count_of is_open tokens) × (fault ≡ faults.TooManyGroups at))))))

@@ -7,13 +7,14 @@ ghost use Rattle.query_grammar.specs.Terminals.{terminal_of};
 ghost use Rattle.query_grammar.specs.Tree.{Syntax};
 ghost use Rattle.query_grammar.specs.declared.syntax.Role.TheVariants as roles;
 ghost use Rattle.alg_model.specs.Pattern.{algebra_of, vars_of};
-ghost use Rattle.sparql_parse.specs.Building.{built, columns_behind, in_role, next_settled, pattern_at, settled, start, step};
-ghost use Rattle.sparql_parse.specs.Builds.{IsSoundState, IsTranslation, labelled_in, state_in};
+ghost use Rattle.alg_model.specs.Limits.{max_triple_patterns};
+ghost use Rattle.sparql_parse.specs.computed.Building.{built, columns_after, in_role, next_settled, pattern_at, settled, start, step};
+ghost use Rattle.sparql_parse.specs.held.Builds.{IsSoundState, IsTranslation, labelled_in, state_in};
 ghost use Rattle.sparql_parse.specs.Faults.{is_object};
-ghost use Rattle.sparql_parse.specs.Meaning.{Scope, each_first};
-ghost use Rattle.sparql_parse.specs.Nodes.{IsSound, node_in};
-ghost use Rattle.sparql_parse.specs.Scopes.{scope_in};
-ghost use Rattle.query_values.specs.Values.{IsSpelled};
+ghost use Rattle.sparql_parse.specs.computed.Meaning.{Scope, each_first};
+ghost use Rattle.sparql_parse.specs.held.Nodes.{IsSound, node_in};
+ghost use Rattle.sparql_parse.specs.held.Scopes.{scope_in};
+ghost use Rattle.query_values.specs.reading.Values.{IsSpelled};
 
 use crate::columns::{put_column, put_variables};
 use crate::group::Body;
@@ -214,7 +215,7 @@ impl<'a> Builder<'a> {
     }
 
     // Takes a token in its role. Where memory runs out, nothing is said of the builder.
-    #[tactic(auto, unfolding(crate::specs::Building::step))]
+    #[tactic(auto, unfolding(crate::specs::computed::Building::step))]
     fn take(&mut self, scope: &Naming, role: Role, token: Token<'a>) -> Result<(), AllocError>
         requires sound { IsSoundState (state_in self.old) }
         requires few { (state_in self.old).body.next + 1 < 2 ^ 16 }
@@ -256,7 +257,7 @@ impl<'a> Builder<'a> {
     // What the query means, whose last token is taken.
     fn finish(self) -> Result<Translation, AllocError>
         ensures pattern { IfOk result (λ translation. algebra_of translation.pattern ≡ (state_in self.entry).body.whole) }
-        ensures columns { IfOk result (λ translation. map (λ column. column.0) translation.columns ≡ columns_behind (state_in self.entry).body.whole (state_in self.entry).head) }
+        ensures columns { IfOk result (λ translation. map (λ column. column.0) translation.columns ≡ columns_after (state_in self.entry).body.whole (state_in self.entry).head) }
         ensures distinct { IfOk result (λ translation. translation.distinct ≡ (state_in self.entry).head.distinct) }
     {
         let distinct = self.distinct;
@@ -310,7 +311,7 @@ pub(crate) fn translate(
     scope: &Naming,
     tokens: &[ReadToken<'_>],
 ) -> Result<Translation, AllocError>
-    requires few { count_of is_object (map labelled_in tokens.now) ≤ 256 }
+    requires few { count_of is_object (map labelled_in tokens.now) ≤ max_triple_patterns }
     requires spelled { All (λ token. IsSpelled (shown token.token)) tokens.now }
     ensures { (tree : Syntax) → IsQuery tree (map labelled_in tokens.now) → IfOk result (IsTranslation (scope_in scope.now) tree) }
 {

@@ -2,7 +2,7 @@
 ghost use Rattle.std.specs.Prelude.{◌≡◌, ◌==◌, OnOk, map, fold, flat_map};
 ghost use Rattle.std.specs.List.{list_any};
 ghost use Rattle.alg_model.specs.Pattern.{algebra_of, place_vars, triple_vars, vars_of};
-ghost use Rattle.sparql_parse.specs.Meaning.{with_number};
+ghost use Rattle.sparql_parse.specs.computed.Meaning.{with_number};
 
 use alg_model::{Columns, Pattern, Place, TriplePat, Var};
 use std::alloc::AllocError;

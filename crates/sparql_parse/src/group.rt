@@ -1,8 +1,8 @@
 // The groups of a query that are open, with their patterns so far.
 ghost use Rattle.std.specs.Prelude.{◌≡◌, ◌<◌, ◌^◌, ◌+◌, [], ◌∷◌, IfOk, OnOk};
 ghost use Rattle.alg_model.specs.Pattern.{Bgp, algebra_of};
-ghost use Rattle.sparql_parse.specs.Building.{closed, combined, in_innermost, joined_block, new_group, opened, pattern_so_far, with_group};
-ghost use Rattle.sparql_parse.specs.Groups.{body_in, group_in};
+ghost use Rattle.sparql_parse.specs.computed.Building.{closed, combined, in_innermost, joined_block, new_group, opened, pattern_so_far, with_group};
+ghost use Rattle.sparql_parse.specs.held.Groups.{body_in, group_in};
 
 use alg_model::{PatList, Pattern, TriplePat};
 use std::alloc::{AllocError, Global};

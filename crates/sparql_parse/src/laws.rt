@@ -1,9 +1,9 @@
 // Laws of the reading of queries. The calls do nothing: their contracts are the laws.
 ghost use Rattle.std.specs.Prelude.{◌≡◌, ◌↔◌, ◌⊎◌, ℕ, List, Ok, Err};
-ghost use Rattle.alg_model.specs.Answers.{AbstractQuery};
+ghost use Rattle.alg_model.specs.Query.{AbstractQuery};
 ghost use Rattle.sparql_parse.specs.declared.fault.QueryFault.{QueryFault};
 ghost use Rattle.sparql_parse.specs.Denotes.{Denotes, IsFaultOf};
-ghost use Rattle.sparql_parse.specs.Reading.{query_reading};
+ghost use Rattle.sparql_parse.specs.computed.Reading.{query_reading};
 
 /// What is read of a text, token by token, is exactly the query that the text denotes by the grammar, or
 /// exactly its first fault.

@@ -3,9 +3,9 @@ ghost use Rattle.std.specs.Prelude.{◌≡◌, ◌==◌, OnOk, IfOk, IfSome, All
 ghost use Rattle.std.specs.Cmp.Lexicographic.{pointwise};
 ghost use Rattle.std.specs.Str.{chars};
 ghost use Rattle.query_tokens.specs.Token.{shown};
-ghost use Rattle.query_values.specs.Values.{AreIriChars, IsSpelled, iri_of};
-ghost use Rattle.sparql_parse.specs.Names.{namespace_of, namespace_with, no_declarations, declarations_behind};
-ghost use Rattle.sparql_parse.specs.Namespaces.{declared, IsNamespace};
+ghost use Rattle.query_values.specs.reading.Values.{AreIriChars, IsSpelled, iri_of};
+ghost use Rattle.sparql_parse.specs.computed.Names.{namespace_of, namespace_with, no_declarations, declarations_after};
+ghost use Rattle.sparql_parse.specs.held.Namespaces.{declared, IsNamespace};
 
 use query_grammar::Role;
 use query_tokens::Token;
@@ -20,22 +20,22 @@ pub(crate) struct Namespace {
     pub(crate) iri: String,
 }
 
-/// The declarations of prefixes, in the order of the text, and the prefix that was declared last.
+/// The declarations of prefixes, in the order of the text, and the prefix of one whose IRI is not read yet.
 #[derive(Debug, Drop)]
 pub(crate) struct Namespaces {
-    last: String,
+    last: Option<String>,
     list: Vec<Namespace>,
 }
 
 impl Model for Namespaces {
-    ghost use Rattle.std.specs.Prelude.{map, string_bytes, All};
+    ghost use Rattle.std.specs.Prelude.{map, option_map, string_bytes, All};
     ghost use Rattle.std.specs.Str.{chars};
-    ghost use Rattle.sparql_parse.specs.Names.{Declarations};
-    ghost use Rattle.sparql_parse.specs.Namespaces.{declared, IsNamespace};
+    ghost use Rattle.sparql_parse.specs.computed.Names.{Declarations};
+    ghost use Rattle.sparql_parse.specs.held.Namespaces.{declared, IsNamespace};
 
     ghost Value = { Declarations };
 
-    ghost view = { λ n. record { prefix = chars (string_bytes n.last); namespaces = map declared n.list.items } };
+    ghost view = { λ n. record { prefix = option_map (λ last. chars (string_bytes last)) n.last; namespaces = map declared n.list.items } };
 
     ghost invariant = { λ n. All IsNamespace n.list.items };
 }
@@ -46,7 +46,7 @@ impl Namespaces {
         ensures { result ≡ no_declarations }
     {
         Namespaces {
-            last: String::new(alloc),
+            last: None,
             list: Vec::new(alloc),
         }
     }
@@ -68,15 +68,19 @@ impl Namespaces {
         token: Token<'_>,
     ) -> Result<(), AllocError>
         requires { IsSpelled (shown token) }
-        ensures { OnOk result (self.new ≡ declarations_behind self.old role (shown token.entry)) }
+        ensures { OnOk result (self.new ≡ declarations_after self.old role (shown token.entry)) }
     {
         match role {
-            Role::Declared => self.last = String::from_str(alloc, prefix(token))?,
-            Role::Namespace => {
-                let namespace = namespace_of(alloc, self.last.as_str(), token)?;
-                self.list.push(namespace)?;
-            }
-            _ => {}
+            Role::Declared => self.last = Some(String::from_str(alloc, prefix(token))?),
+            Role::Namespace => match self.last.take() {
+                Some(prefix) => {
+                    let namespace = namespace_of(alloc, prefix.as_str(), token)?;
+                    self.list.push(namespace)?;
+                }
+                // Never comes: the tokens begin a query, so the IRI of a declaration follows its prefix.
+                None => {}
+            },
+            _ => self.last = None,
         }
         Ok(())
     }

@@ -4,10 +4,11 @@ ghost use Rattle.std.specs.Str.{chars};
 ghost use Rattle.query_tokens.specs.Token.{shown};
 ghost use Rattle.query_grammar.specs.Roles.{with_role};
 ghost use Rattle.query_grammar.specs.Terminals.{terminal_of};
-ghost use Rattle.query_values.specs.Values.{AreIriChars, IsSpelled};
-ghost use Rattle.sparql_parse.specs.Names.{is_text, namespace_of, names_behind};
-ghost use Rattle.sparql_parse.specs.Faults.{is_unknown, uses_prefix};
-ghost use Rattle.sparql_parse.specs.Naming.{IsWithin, fault_behind, is_new_name, kept_behind, kept_of};
+ghost use Rattle.query_values.specs.reading.Values.{AreIriChars, IsSpelled};
+ghost use Rattle.alg_model.specs.Limits.{max_variables};
+ghost use Rattle.sparql_parse.specs.computed.Names.{is_text, namespace_of, names_after};
+ghost use Rattle.sparql_parse.specs.computed.Faults.{is_unknown, uses_prefix};
+ghost use Rattle.sparql_parse.specs.computed.Naming.{IsWithin, fault_after, is_new_name, kept_after, kept_of};
 
 use crate::fault::QueryFault;
 use crate::namespaces::Namespaces;
@@ -31,7 +32,7 @@ pub(crate) struct Naming {
 
 impl Model for Naming {
     ghost use Rattle.std.specs.Prelude.{◌≤◌, length};
-    ghost use Rattle.sparql_parse.specs.Naming.{Kept, IsWithin};
+    ghost use Rattle.sparql_parse.specs.computed.Naming.{Kept, IsWithin};
 
     ghost Value = { Kept };
 
@@ -42,7 +43,7 @@ impl Model for Naming {
 
 impl Naming {
     /// Before the first token.
-    #[tactic(auto, unfolding(crate::specs::Names::names_of, crate::specs::Names::declarations_of))]
+    #[tactic(auto, unfolding(crate::specs::computed::Names::names_of, crate::specs::computed::Names::declarations_of))]
     pub(crate) fn new(alloc: Global) -> Naming
         ensures { result ≡ kept_of [] }
     {
@@ -61,7 +62,7 @@ impl Naming {
     /// The number of a variable: the place of its name, if it is there.
     pub(crate) fn number(&self, name: &[u8]) -> Option<usize>
         ensures place { result ≡ position (is_text name.now) self.now.names }
-        ensures few { IfSome result (λ number. number < 64) }
+        ensures few { IfSome result (λ number. number < max_variables) }
     {
         self.names.position(name)
     }
@@ -96,9 +97,9 @@ impl Naming {
         depth: usize,
     ) -> Result<(), QueryFault>
         requires { IsSpelled (shown token) }
-        ensures kept { OnOk result (self.new ≡ kept_behind self.old (with_role role (shown token.entry))) }
-        ensures none { OnOk result (fault_behind self.old depth (with_role role (shown token.entry)) ≡ None) }
-        ensures fault { IfErr result (λ fault. (fault ≡ QueryFault.Memory) ⊎ (fault_behind self.old depth (with_role role (shown token.entry)) ≡ Some fault)) }
+        ensures kept { OnOk result (self.new ≡ kept_after self.old (with_role role (shown token.entry))) }
+        ensures none { OnOk result (fault_after self.old depth (with_role role (shown token.entry)) ≡ None) }
+        ensures fault { IfErr result (λ fault. (fault ≡ QueryFault.Memory) ⊎ (fault_after self.old depth (with_role role (shown token.entry)) ≡ Some fault)) }
     {
         match self.fault(role, token, depth) {
             Some(fault) => Err(fault),
@@ -109,13 +110,13 @@ impl Naming {
     // The fault of a token.
     fn fault(&self, role: Role, token: Token<'_>, depth: usize) -> Option<QueryFault>
         requires { IsSpelled (shown token) }
-        ensures { result ≡ fault_behind self.now depth (with_role role (shown token.entry)) }
+        ensures { result ≡ fault_after self.now depth (with_role role (shown token.entry)) }
     {
         if self.is_unknown(role, token) {
             return Some(QueryFault::UnknownPrefix { at: token.at });
         }
         let tally = self.tally.behind(role);
-        tally.fault(self.names_behind(token), depth, token.at)
+        tally.fault(self.names_after(token), depth, token.at)
     }
 
     // Whether a token uses a prefix that is not declared.
@@ -127,8 +128,8 @@ impl Naming {
     }
 
     // How many names there are behind a token.
-    fn names_behind(&self, token: Token<'_>) -> usize
-        ensures { result ≡ length (names_behind self.now.names (terminal_of (shown token.entry)) (shown token.entry)) }
+    fn names_after(&self, token: Token<'_>) -> usize
+        ensures { result ≡ length (names_after self.now.names (terminal_of (shown token.entry)) (shown token.entry)) }
     {
         if is_new(&self.names, token) {
             self.names.len() + 1
@@ -140,8 +141,8 @@ impl Naming {
     // Keeps what is to be kept of a token that has no fault.
     fn keep(&mut self, role: Role, token: Token<'_>) -> Result<(), AllocError>
         requires spelled { IsSpelled (shown token) }
-        requires within { let behind = kept_behind self.old (with_role role (shown token)) in IsWithin behind.names behind.tally }
-        ensures { OnOk result (self.new ≡ kept_behind self.old (with_role role (shown token.entry))) }
+        requires within { let behind = kept_after self.old (with_role role (shown token)) in IsWithin behind.names behind.tally }
+        ensures { OnOk result (self.new ≡ kept_after self.old (with_role role (shown token.entry))) }
     {
         add_name(&mut self.names, token)?;
         self.namespaces.take(self.alloc, role, token)?;
@@ -162,7 +163,7 @@ fn is_new(names: &Names, token: Token<'_>) -> bool
 
 // Puts the name of a variable at the end, unless it is there.
 fn add_name(names: &mut Names, token: Token<'_>) -> Result<(), AllocError>
-    ensures ok { OnOk result (names.new ≡ names_behind names.old (terminal_of (shown token.entry)) (shown token.entry)) }
+    ensures ok { OnOk result (names.new ≡ names_after names.old (terminal_of (shown token.entry)) (shown token.entry)) }
     ensures err { OnErr result (names.new ≡ names.old) }
 {
     if is_new(names, token) {

@@ -2,9 +2,9 @@
 ghost use Rattle.std.specs.Prelude.{◌≡◌};
 ghost use Rattle.query_tokens.specs.Token.{shown};
 ghost use Rattle.query_grammar.specs.Terminals.{terminal_of};
-ghost use Rattle.sparql_parse.specs.Building.{node_of, with_datatype, with_tag};
-ghost use Rattle.sparql_parse.specs.Nodes.{IsSound, node_in};
-ghost use Rattle.query_values.specs.Values.{IsSpelled};
+ghost use Rattle.sparql_parse.specs.computed.Building.{node_of, with_datatype, with_tag};
+ghost use Rattle.sparql_parse.specs.held.Nodes.{IsSound, node_in};
+ghost use Rattle.query_values.specs.reading.Values.{IsSpelled};
 
 use query_grammar::{Terminal, terminal_of};
 use query_tokens::Token;

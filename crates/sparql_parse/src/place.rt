@@ -2,10 +2,10 @@
 ghost use Rattle.std.specs.Prelude.{◌≡◌, IfOk, string_bytes};
 ghost use Rattle.std.specs.Str.{chars};
 ghost use Rattle.query_tokens.specs.Token.{shown};
-ghost use Rattle.sparql_parse.specs.Meaning.{iri_in, namespace_at, number_of, place_of};
-ghost use Rattle.sparql_parse.specs.Nodes.{IsSound, node_in};
-ghost use Rattle.sparql_parse.specs.Scopes.{scope_in};
-ghost use Rattle.query_values.specs.Values.{AreIriChars, IsSpelled, name_of, prefix_of};
+ghost use Rattle.sparql_parse.specs.computed.Meaning.{iri_in, namespace_at, number_of, place_of};
+ghost use Rattle.sparql_parse.specs.held.Nodes.{IsSound, node_in};
+ghost use Rattle.sparql_parse.specs.held.Scopes.{scope_in};
+ghost use Rattle.query_values.specs.reading.Values.{AreIriChars, IsSpelled, name_of, prefix_of};
 
 use crate::naming::Naming;
 use crate::node::Node;

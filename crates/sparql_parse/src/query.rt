@@ -1,14 +1,15 @@
 // The reading of queries.
 ghost use Rattle.std.specs.Prelude.{◌≡◌, ◌⊎◌, All, IfOk, IfErr, MatchResult, OnOk, Ok, Err, map, [], ◌∷◌, ◌++◌};
 ghost use Rattle.query_grammar.specs.Roles.{with_role};
-ghost use Rattle.sparql_parse.specs.Builds.{labelled_in};
+ghost use Rattle.sparql_parse.specs.held.Builds.{labelled_in};
 ghost use Rattle.std.specs.Str.{IsUtf8};
 ghost use Rattle.query_tokens.specs.Token.{shown};
 ghost use Rattle.query_grammar.specs.declared.expect.Expect.{Expect};
-ghost use Rattle.alg_model.specs.Answers.{AbstractQuery, abstract_of};
+ghost use Rattle.alg_model.specs.Query.{AbstractQuery, abstract_of};
 ghost use Rattle.alg_model.specs.Limits.{KeepsLimits};
-ghost use Rattle.sparql_parse.specs.Reading.{IsMemoryOr, first, query_of, query_reading, read_next, read_on, text_reading};
-ghost use Rattle.sparql_parse.specs.Readers.{IsKept, IsSpelledOrBad, labels_in, reading_in};
+ghost use Rattle.sparql_parse.specs.computed.Reading.{IsMemoryOr, first, query_of, query_reading, read_next, read_on, text_reading};
+ghost use Rattle.sparql_parse.specs.held.Readers.{IsKept, labels_in, reading_in};
+ghost use Rattle.query_values.specs.reading.Values.{IsSpelledOrBad};
 ghost use Rattle.sparql_parse.specs.Denotes.{Denotes, IsFaultOf, word_fault};
 ghost use Rattle.query_grammar.specs.Words.{unsupported_word};
 
@@ -125,7 +126,7 @@ fn read_all<'a>(alloc: Global, tokens: &[Token<'a>]) -> Result<Reader<'a>, Query
 /// text is UTF-8 only before that byte, or the grammar does not go on; `Unsupported` where it does not go on with a
 /// word of SPARQL that this project leaves out; `UnknownPrefix` at a prefix without a declaration before it; and a
 /// limit at the token that passes it. `Memory` where memory runs out, of which nothing else is said.
-#[tactic(auto, unfolding(crate::specs::Reading::query_reading))]
+#[tactic(auto, unfolding(crate::specs::computed::Reading::query_reading))]
 pub fn parse_query(alloc: Global, text: &[u8]) -> Result<Query, QueryFault>
     ensures reads { MatchResult result (λ query. query_reading text.now ≡ Ok (abstract_of query)) (IsMemoryOr (query_reading text.now)) }
     ensures limits { IfOk result KeepsLimits }

@@ -1,20 +1,12 @@
 // The limits of a query, but those of its names.
 ghost use Rattle.std.specs.Prelude.{◌≡◌, ◌≤◌};
-ghost use Rattle.sparql_parse.specs.Faults.{limit_among};
-ghost use Rattle.sparql_parse.specs.Naming.{counts_with, tally_behind};
+ghost use Rattle.alg_model.specs.Limits.{max_triple_patterns, max_optionals, max_groups};
+ghost use Rattle.sparql_parse.specs.computed.Faults.{limit_among};
+ghost use Rattle.sparql_parse.specs.computed.Naming.{counts_with, tally_after};
 
 use crate::fault::QueryFault;
+use alg_model::{MAX_GROUPS, MAX_OPEN_GROUPS, MAX_OPTIONALS, MAX_TRIPLE_PATTERNS, MAX_VARIABLES};
 use query_grammar::Role;
-
-const MAX_NAMES: usize = 64;
-
-const MAX_OBJECTS: usize = 256;
-
-const MAX_OPTIONALS: usize = 63;
-
-const MAX_DEPTH: usize = 32;
-
-const MAX_GROUPS: usize = 256;
 
 /// How many triple patterns, OPTIONALs and groups there are.
 #[derive(Clone, Copy, Debug)]
@@ -27,10 +19,10 @@ pub(crate) struct Tally {
 impl Tally {
     /// The same with one token more, in this role.
     pub(crate) fn behind(self, role: Role) -> Tally
-        requires objects { self.objects ≤ 256 }
-        requires optionals { self.optionals ≤ 63 }
-        requires groups { self.groups ≤ 256 }
-        ensures { result ≡ tally_behind self role }
+        requires objects { self.objects ≤ max_triple_patterns }
+        requires optionals { self.optionals ≤ max_optionals }
+        requires groups { self.groups ≤ max_groups }
+        ensures { result ≡ tally_after self role }
     {
         let mut tally = self;
         match role {
@@ -47,16 +39,16 @@ impl Tally {
     pub(crate) fn fault(self, names: usize, depth: usize, at: usize) -> Option<QueryFault>
         ensures { result ≡ limit_among at (counts_with names self depth) }
     {
-        if names > MAX_NAMES {
+        if names > MAX_VARIABLES {
             return Some(QueryFault::TooManyVariables { at });
         }
-        if self.objects > MAX_OBJECTS {
+        if self.objects > MAX_TRIPLE_PATTERNS {
             return Some(QueryFault::TooManyPatterns { at });
         }
         if self.optionals > MAX_OPTIONALS {
             return Some(QueryFault::TooManyOptionals { at });
         }
-        if depth > MAX_DEPTH {
+        if depth > MAX_OPEN_GROUPS {
             return Some(QueryFault::TooDeep { at });
         }
         if self.groups > MAX_GROUPS {

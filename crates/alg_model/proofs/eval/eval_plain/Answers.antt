@@ -4,7 +4,7 @@ use Rattle.alg_model.specs.Pattern.{HasVarsBelow, algebra_of}
 use Rattle.alg_model.specs.Eval.{as_terms, eval}
 use Rattle.alg_model.specs.Solution.{AreSolutions}
 use Rattle.alg_model.proofs.Width.{HasWidth, width-eval}
-use Rattle.alg_model.proofs.BasicPatterns.{basic-solutions, as_terms_faithful}
+use Rattle.alg_model.proofs.BasicPatterns.{basic-solutions, as_terms-values, as_terms-triples}
 use Rattle.alg_model.proofs.eval.eval_plain.Goals as goal
 
 pub returns-clause-width : goal.returns-clause-width
@@ -17,4 +17,4 @@ returns-clause-solutions c = λ patterns is.
     let triples = c.args.triples.now in
     let rows = c.from_rows.ensures ∙ c.in_ok-rows.ensures ∙ ap (λ pattern. eval as_terms n pattern triples) is in
     let below = subst (HasVarsBelow n) is c.requires.vars_below in
-    subst (AreSolutions as_terms n patterns triples) (sym rows) (basic-solutions as_terms as_terms_faithful n patterns triples below c.requires.each_once)
+    subst (AreSolutions as_terms n patterns triples) (sym rows) (basic-solutions as_terms as_terms-values n patterns triples (as_terms-triples triples) below c.requires.each_once)

@@ -13,8 +13,8 @@ loop-piece-preserved g c =
     record {
       said = Step-then c.loop-piece.invariant.said c.in-Ok.ensures.step (λ m k n so_far moved. moved ∙ ap (λ w. with_complained w piece) so_far ∙ complained_appends m before piece ∙ ap (with_complained m) (sym more));
       later = omega (arith, c.loop-piece.invariant.later, c.in-Ok.ensures.cause.later);
-      reads = c.in-Ok.ensures.read_faults_stay ∙ c.loop-piece.invariant.reads;
-      writes = c.in-Ok.ensures.write_faults_stay ∙ c.loop-piece.invariant.writes;
+      reads = c.in-Ok.ensures.reads_stay ∙ c.loop-piece.invariant.reads;
+      writes = c.in-Ok.ensures.writes_stay ∙ c.loop-piece.invariant.writes;
     }
 
 pub returns-in-Err-clause-step : goal.returns-in-Err-clause-step

@@ -1,4 +1,4 @@
-use Rattle.nt_read.specs.LineReading.{bad, nothing, spelled}
+use Rattle.nt_read.specs.scanning.Line.{bad, nothing, spelled}
 use Rattle.nt_read.proofs.LineLaws.{spelled_is_read, nothing_is_read, bad_is_read}
 use Rattle.nt_read.proofs.LineAnswers.{answers_spelled, answers_nothing, answers_bad, answers_rdf, answers_only}
 use Rattle.nt_read.proofs.line.read_line.Goals as goal

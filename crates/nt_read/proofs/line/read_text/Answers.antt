@@ -1,7 +1,7 @@
 use Rattle.std.proofs.Common.{ap, ◌∙◌, sym}
 use Rattle.std.specs.Str.{chars}
-use Rattle.nt_read.specs.Found.{terms_found}
-use Rattle.nt_read.specs.LineReading.{spelled}
+use Rattle.nt_read.specs.scanning.Found.{terms_found}
+use Rattle.nt_read.specs.scanning.Line.{spelled}
 use Rattle.nt_read.proofs.LineLaws.{statement_is_terms, statement_is_spelled, no_statement_is_bad, end_is_nothing}
 use Rattle.nt_read.proofs.line.read_text.Goals as goal
 

@@ -1,7 +1,7 @@
 use Rattle.std.proofs.Common.{◌≡◌, ◌+◌, ◌∷◌, drop, sym, ◌∙◌, arith}
 use Rattle.std.specs.Option.{option_copied}
 use Rattle.std.proofs.lemmas.Grind.{common_steps}
-use Rattle.nt_read.specs.Lines.{lines_of, lines_left}
+use Rattle.nt_read.specs.scanning.Lines.{lines_of, lines_left}
 use Rattle.nt_read.proofs.Fronts.{left-more, taken-more, good-more, bad-more}
 use Rattle.nt_read.proofs.lines.read_lines.Goals as goal
 

@@ -1,7 +1,7 @@
 use Rattle.std.proofs.Common.{◌≡◌, ◌+◌, None, length, take, drop}
 use Rattle.std.specs.Option.{option_copied}
 use Rattle.bm_term.specs.Kept.{HasTaken}
-use Rattle.nt_read.specs.Lines.{lines_of, lines_left, first_bad, first_bad_from, triples_of}
+use Rattle.nt_read.specs.scanning.Lines.{lines_of, lines_left, first_bad, first_bad_from, triples_of}
 use Rattle.nt_read.proofs.lines.read_lines.Given as goal
 
 abbrev pub invariant-loop-rest : goal.invariant-loop-rest

@@ -1,5 +1,5 @@
 use Rattle.std.specs.Str.{chars}
-use Rattle.nt_read.specs.Found.{label_of}
+use Rattle.nt_read.specs.scanning.Found.{label_of}
 use Rattle.nt_read.proofs.RawLaws.{begins_with_label, label_is_read, label_is_canonical}
 use Rattle.nt_read.proofs.terminals.blank_node_label.Goals as goal
 

@@ -1,9 +1,9 @@
 use Rattle.std.proofs.Common.{ap, ◌∙◌}
 use Rattle.std.specs.Str.{chars}
-use Rattle.bm_term.specs.Classes.{is_irichar}
-use Rattle.bm_term.specs.Marks.{greater_than, less_than}
-use Rattle.bm_term.specs.Text.{after_char}
-use Rattle.nt_read.specs.Found.{iri_of}
+use Rattle.rdf_text.specs.Classes.{is_irichar}
+use Rattle.rdf_text.specs.Marks.{greater_than, less_than}
+use Rattle.rdf_text.specs.scanning.Text.{after_char}
+use Rattle.nt_read.specs.scanning.Found.{iri_of}
 use Rattle.nt_read.proofs.RawLaws.{begins_with_run, run_has_rest, iri_run_is_read, iri_run_is_canonical}
 use Rattle.nt_read.proofs.terminals.iri_ref.Goals as goal
 

@@ -1,9 +1,9 @@
 use Rattle.std.proofs.Common.{ap, ◌∙◌}
 use Rattle.std.specs.Str.{chars}
-use Rattle.bm_term.specs.Marks.{quotation_mark}
-use Rattle.bm_term.specs.Text.{after_char}
-use Rattle.bm_term.specs.Reading.{is_raw_char}
-use Rattle.nt_read.specs.Found.{lexical_of}
+use Rattle.rdf_text.specs.Marks.{quotation_mark}
+use Rattle.rdf_text.specs.scanning.Text.{after_char}
+use Rattle.rdf_text.specs.scanning.Bytes.{is_raw_char}
+use Rattle.nt_read.specs.scanning.Found.{lexical_of}
 use Rattle.nt_read.proofs.RawLaws.{begins_with_run, run_has_rest, string_run_is_read, string_run_is_canonical}
 use Rattle.nt_read.proofs.terminals.string_literal_quote.Goals as goal
 

@@ -1,8 +1,8 @@
 use Rattle.std.proofs.Common.{◌≡◌, ◌∙◌}
 use Rattle.std.proofs.lemmas.Result.{IfOk-weaker}
 use Rattle.bm_term.specs.Canonical.{iri, canonical_text}
-use Rattle.nt_read.specs.declared.found.Quoted.TheVariants.{Raw}
-use Rattle.nt_read.specs.Found.{iri_of}
+use Rattle.nt_read.specs.declared.found.FoundText.TheVariants.{Raw}
+use Rattle.nt_read.specs.scanning.Found.{iri_of}
 use Rattle.nt_read.proofs.WritingLaws.{raw_bytes}
 use Rattle.nt_read.proofs.writing.iri_text.Goals as goal
 

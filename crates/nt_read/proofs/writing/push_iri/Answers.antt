@@ -1,11 +1,11 @@
 use Rattle.std.specs.Prelude.{string_bytes}
 use Rattle.std.specs.Str.{chars}
 use Rattle.bm_term.specs.Canonical.{iri}
-use Rattle.bm_term.specs.Marks.{greater_than, less_than}
-use Rattle.nt_read.specs.declared.found.Quoted.TheVariants.{Raw}
-use Rattle.nt_read.specs.Found.{iri_of}
-use Rattle.rdf_escapes.specs.Pieces.{values}
-use Rattle.rdf_escapes.specs.Reading.{iri_piece}
+use Rattle.rdf_text.specs.Marks.{greater_than, less_than}
+use Rattle.nt_read.specs.declared.found.FoundText.TheVariants.{Raw}
+use Rattle.nt_read.specs.scanning.Found.{iri_of}
+use Rattle.rdf_escapes.specs.scanning.Pieces.{values}
+use Rattle.rdf_escapes.specs.scanning.Iris.{iri_piece}
 use Rattle.bm_term.proofs.WrittenTerms.{pushed_marked}
 use Rattle.nt_read.proofs.WritingLaws.{raw_bytes, pushed_raw}
 use Rattle.nt_read.proofs.writing.push_iri.Goals as goal

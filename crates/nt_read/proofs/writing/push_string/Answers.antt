@@ -1,11 +1,12 @@
 use Rattle.std.specs.Prelude.{string_bytes}
 use Rattle.std.specs.Str.{chars}
-use Rattle.bm_term.specs.Canonical.{plain, escaped}
-use Rattle.bm_term.specs.Marks.{quotation_mark}
-use Rattle.nt_read.specs.declared.found.Quoted.TheVariants.{Raw}
-use Rattle.nt_read.specs.Found.{lexical_of}
-use Rattle.rdf_escapes.specs.Pieces.{values}
-use Rattle.rdf_escapes.specs.Reading.{string_piece}
+use Rattle.bm_term.specs.Canonical.{plain}
+use Rattle.rdf_text.specs.Spelling.{escaped}
+use Rattle.rdf_text.specs.Marks.{quotation_mark}
+use Rattle.nt_read.specs.declared.found.FoundText.TheVariants.{Raw}
+use Rattle.nt_read.specs.scanning.Found.{lexical_of}
+use Rattle.rdf_escapes.specs.scanning.Pieces.{values}
+use Rattle.rdf_escapes.specs.scanning.Strings.{string_piece}
 use Rattle.bm_term.proofs.WrittenTerms.{pushed_marked}
 use Rattle.nt_read.proofs.WritingLaws.{raw_bytes, pushed_raw}
 use Rattle.nt_read.proofs.writing.push_string.Goals as goal

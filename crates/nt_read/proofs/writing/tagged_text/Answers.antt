@@ -3,7 +3,7 @@ use Rattle.std.specs.Prelude.{string_bytes}
 use Rattle.std.specs.Char.{to_ascii_lowercase}
 use Rattle.std.specs.Str.{chars}
 use Rattle.bm_term.specs.Canonical.{plain, canonical_text}
-use Rattle.nt_read.specs.Found.{lexical_of, tag_of}
+use Rattle.nt_read.specs.scanning.Found.{lexical_of, tag_of}
 use Rattle.bm_term.proofs.WrittenTerms.{tagged_bytes}
 use Rattle.nt_read.proofs.writing.tagged_text.Goals as goal
 

@@ -1,7 +1,7 @@
 use Rattle.std.proofs.Common.{◌≡◌, ◌∙◌}
 use Rattle.std.proofs.lemmas.Result.{IfOk-weaker}
 use Rattle.bm_term.specs.Canonical.{blank, canonical_text}
-use Rattle.nt_read.specs.Found.{label_of, term_found}
+use Rattle.nt_read.specs.scanning.Found.{label_of, term_found}
 use Rattle.nt_read.proofs.WritingLaws.{raw_bytes}
 use Rattle.nt_read.proofs.writing.text.Goals as goal
 

@@ -2,7 +2,7 @@ use Rattle.std.proofs.Common.{◌≡◌, ℕ, List, ◌++◌, ap, ◌∙◌, sym
 use Rattle.std.proofs.lemmas.Result.{IfOk-weaker}
 use Rattle.std.specs.Prelude.{string_bytes}
 use Rattle.bm_term.specs.Canonical.{iri, plain, literal_of, IsTerm, canonical_text}
-use Rattle.nt_read.specs.Found.{lexical_of}
+use Rattle.nt_read.specs.scanning.Found.{lexical_of}
 use Rattle.nt_read.proofs.LiteralTexts.{datatype_bytes, is_xsd_string, is_other_type, plain_of_string, typed_of_other}
 use Rattle.nt_read.proofs.writing.text_with_datatype.Goals as goal
 

@@ -1,8 +1,8 @@
 use Rattle.std.proofs.Common.{◌≡◌, ℕ, List, ◌++◌, ap, ◌∙◌}
 use Rattle.std.proofs.lemmas.Result.{IfOk-weaker}
 use Rattle.bm_term.specs.Canonical.{iri, literal_of, IsTerm, canonical_text}
-use Rattle.nt_read.specs.declared.found.Quoted.TheVariants.{Raw}
-use Rattle.nt_read.specs.Found.{iri_of, lexical_of}
+use Rattle.nt_read.specs.declared.found.FoundText.TheVariants.{Raw}
+use Rattle.nt_read.specs.scanning.Found.{iri_of, lexical_of}
 use Rattle.nt_read.proofs.WritingLaws.{raw_bytes}
 use Rattle.nt_read.proofs.LiteralTexts.{iri_of-members}
 use Rattle.nt_read.proofs.writing.typed_text.Goals as goal

@@ -2,7 +2,7 @@ use Rattle.std.proofs.Common.{◌≡◌, length}
 use denote.Text.{Utf8}
 use denote.Shadow.{shadow}
 use Rattle.std.specs.Str.{chars}
-use Rattle.query_tokens.specs.Blanks.{after_blanks}
+use Rattle.query_tokens.specs.scanning.Blanks.{after_blanks}
 use Rattle.query_tokens.proofs.blanks.after_blanks.Given as goal
 
 abbrev pub invariant-loop-after : goal.invariant-loop-after

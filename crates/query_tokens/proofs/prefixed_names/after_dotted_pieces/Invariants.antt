@@ -2,8 +2,8 @@ use Rattle.std.proofs.Common.{◌≡◌, length}
 use denote.Text.{Utf8}
 use denote.Shadow.{shadow}
 use Rattle.std.specs.Str.{chars}
-use Rattle.bm_term.specs.Repetition.{after_pieces}
-use Rattle.query_tokens.specs.PrefixedNames.{after_dotted_piece}
+use Rattle.rdf_text.specs.scanning.Repetition.{after_pieces}
+use Rattle.query_tokens.specs.scanning.PrefixedNames.{after_dotted_piece}
 use Rattle.query_tokens.proofs.prefixed_names.after_dotted_pieces.Given as goal
 
 abbrev pub invariant-loop-after : goal.invariant-loop-after

@@ -3,7 +3,7 @@ use Rattle.std.proofs.lemmas.Str.{chars-encodes, scalars-chars}
 use Rattle.std.specs.Char.{to_ascii_lowercase}
 use Rattle.std.specs.Str.{chars, encode_utf8_all}
 use Rattle.bm_term.specs.Canonical.{xsd_string}
-use Rattle.query_values.specs.Values.{xsd_boolean}
+use Rattle.query_values.specs.Literals.{xsd_boolean}
 use Rattle.query_values.proofs.TermLaws.{lower_characters, other_text}
 use Rattle.query_values.proofs.TokenLaws.{xsd_boolean-chars, xsd_boolean-irichars, xsd_boolean-other}
 use Rattle.query_values.proofs.terms.boolean_term.Goals as goal

@@ -1,5 +1,5 @@
 use Rattle.bm_term.specs.Canonical.{xsd_string}
-use Rattle.query_values.specs.Values.{number_type}
+use Rattle.query_values.specs.reading.Values.{number_type}
 use Rattle.query_values.proofs.TermLaws.{other_text}
 use Rattle.query_values.proofs.TokenLaws.{number_type-chars, number_type-irichars, number_type-other}
 use Rattle.query_values.proofs.terms.number_term.Goals as goal

@@ -2,7 +2,7 @@ use Rattle.std.specs.Prelude.{string_bytes}
 use Rattle.std.proofs.Common.{◌++◌, ◌∙◌, ap}
 use Rattle.bm_term.specs.Canonical.{canonical_text}
 use Rattle.query_tokens.specs.Token.{shown}
-use Rattle.query_values.specs.Values.{plain_literal}
+use Rattle.query_values.specs.reading.Values.{plain_literal}
 use Rattle.query_values.proofs.TermLaws.{is_canonical}
 use Rattle.query_values.proofs.TokenLaws.{lexical_characters}
 use Rattle.query_values.proofs.terms.plain_term.Goals as goal

@@ -1,8 +1,8 @@
 use Rattle.std.proofs.Common.{◌++◌, refl}
 use Rattle.std.specs.Prelude.{string_bytes}
 use Rattle.std.specs.Str.{chars, encode_utf8_all}
-use Rattle.bm_term.specs.Canonical.{escaped, spelling}
-use Rattle.bm_term.proofs.WalkLaws.{walk_step, walk_end}
+use Rattle.rdf_text.specs.Spelling.{escaped, spelling}
+use Rattle.rdf_text.proofs.WalkLaws.{walk_step, walk_end}
 use Rattle.query_values.proofs.terms.push_escaped.Goals as goal
 
 pub loop-c-preserved : goal.loop-c-preserved

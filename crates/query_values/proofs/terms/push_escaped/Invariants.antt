@@ -3,7 +3,7 @@ use Rattle.std.specs.Prelude.{string_bytes}
 use denote.Text.{Utf8}
 use denote.Shadow.{shadow}
 use Rattle.std.specs.Str.{chars, encode_utf8_all}
-use Rattle.bm_term.specs.Canonical.{escaped}
+use Rattle.rdf_text.specs.Spelling.{escaped}
 use Rattle.query_values.proofs.terms.push_escaped.Given as goal
 
 abbrev pub invariant-loop-c : goal.invariant-loop-c

@@ -1,6 +1,6 @@
 use Rattle.std.specs.Prelude.{string_bytes}
 use Rattle.std.specs.Str.{chars}
-use Rattle.bm_term.specs.Marks.{less_than, greater_than}
+use Rattle.rdf_text.specs.Marks.{less_than, greater_than}
 use Rattle.bm_term.proofs.WrittenTerms.{pushed_marked}
 use Rattle.query_values.proofs.TermLaws.{text_bytes}
 use Rattle.query_values.proofs.terms.push_iri.Goals as goal

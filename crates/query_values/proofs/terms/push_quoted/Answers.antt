@@ -1,10 +1,10 @@
 use Rattle.std.proofs.Common.{◌++◌, ◌∙◌, ap}
 use Rattle.std.specs.Prelude.{string_bytes}
 use Rattle.std.specs.Str.{chars, encode_utf8_all}
-use Rattle.bm_term.specs.Canonical.{escaped}
-use Rattle.bm_term.specs.Marks.{quotation_mark}
+use Rattle.rdf_text.specs.Spelling.{escaped}
+use Rattle.rdf_text.specs.Marks.{quotation_mark}
 use Rattle.query_tokens.specs.Token.{shown}
-use Rattle.query_values.specs.Values.{between_marks, lexical_of}
+use Rattle.query_values.specs.reading.Values.{between_marks, lexical_of}
 use Rattle.bm_term.proofs.WrittenTerms.{pushed_marked}
 use Rattle.query_values.proofs.terms.push_quoted.Goals as goal
 

@@ -3,9 +3,9 @@ use Rattle.std.specs.Prelude.{string_bytes}
 use Rattle.std.specs.Char.{to_ascii_lowercase}
 use Rattle.std.specs.Str.{chars, encode_utf8_all}
 use Rattle.bm_term.specs.Canonical.{canonical_text}
-use Rattle.bm_term.specs.Text.{behind_first}
+use Rattle.rdf_text.specs.scanning.Text.{after_first}
 use Rattle.query_tokens.specs.Token.{shown}
-use Rattle.query_values.specs.Values.{lexical_of, tag_of, plain_literal, tagged_literal}
+use Rattle.query_values.specs.reading.Values.{lexical_of, tag_of, plain_literal, tagged_literal}
 use Rattle.bm_term.proofs.WrittenTerms.{tagged_bytes}
 use Rattle.query_values.proofs.TermLaws.{is_canonical}
 use Rattle.query_values.proofs.TokenLaws.{lexical_characters, tag_of-lower}
@@ -21,7 +21,7 @@ from_canonical-requires c =
     (string_bytes c.push_lower.new.out)
     (c.in_ok-push_quoted.ensures ∙ ap (λ xs. xs ++ canonical_text (plain_literal (shown c.args.string))) c.new-text.ensures.bytes)
     c.in_ok-push.ensures.bytes
-    (c.in_ok-push_lower.ensures.ok ∙ ap (λ text. string_bytes c.push.new.self ++ encode_utf8_all (map to_ascii_lowercase text)) (c.behind_first.ensures ∙ ap (λ text. behind_first (chars text)) c.text_of.ensures))))
+    (c.in_ok-push_lower.ensures.ok ∙ ap (λ text. string_bytes c.push.new.self ++ encode_utf8_all (map to_ascii_lowercase text)) (c.after_first.ensures ∙ ap (λ text. after_first (chars text)) c.text_of.ensures))))
 
 pub returns : goal.returns
 unfolding tag_of
@@ -31,4 +31,4 @@ returns c =
     (string_bytes c.push_lower.new.out)
     (c.in_ok-push_quoted.ensures ∙ ap (λ xs. xs ++ canonical_text (plain_literal (shown c.args.string))) c.new-text.ensures.bytes)
     c.in_ok-push.ensures.bytes
-    (c.in_ok-push_lower.ensures.ok ∙ ap (λ text. string_bytes c.push.new.self ++ encode_utf8_all (map to_ascii_lowercase text)) (c.behind_first.ensures ∙ ap (λ text. behind_first (chars text)) c.text_of.ensures)))
+    (c.in_ok-push_lower.ensures.ok ∙ ap (λ text. string_bytes c.push.new.self ++ encode_utf8_all (map to_ascii_lowercase text)) (c.after_first.ensures ∙ ap (λ text. after_first (chars text)) c.text_of.ensures)))

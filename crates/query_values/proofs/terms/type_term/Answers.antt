@@ -1,4 +1,4 @@
-use Rattle.query_values.specs.Values.{rdf_type}
+use Rattle.query_values.specs.Iris.{rdf_type}
 use Rattle.query_values.proofs.TokenLaws.{rdf_type-chars, rdf_type-irichars}
 use Rattle.query_values.proofs.terms.type_term.Goals as goal
 

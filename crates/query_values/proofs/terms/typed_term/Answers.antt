@@ -3,7 +3,7 @@ use Rattle.std.specs.Prelude.{string_bytes}
 use Rattle.std.specs.Str.{chars}
 use Rattle.bm_term.specs.Canonical.{literal_of, typed, xsd_string, canonical_text}
 use Rattle.query_tokens.specs.Token.{shown}
-use Rattle.query_values.specs.Values.{lexical_of, plain_literal}
+use Rattle.query_values.specs.reading.Values.{lexical_of, plain_literal}
 use Rattle.bm_term.proofs.WrittenTerms.{typed_bytes}
 use Rattle.query_values.proofs.TermLaws.{is_canonical, other_text}
 use Rattle.query_values.proofs.TokenLaws.{lexical_characters}

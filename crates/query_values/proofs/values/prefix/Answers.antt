@@ -1,6 +1,6 @@
 use Rattle.std.specs.Str.{chars}
-use Rattle.bm_term.proofs.TextLemmas.{after_run-split}
-use Rattle.query_values.specs.Values.{is_no_colon}
+use Rattle.rdf_text.proofs.TextLemmas.{after_run-split}
+use Rattle.query_values.specs.reading.Values.{is_no_colon}
 use Rattle.query_values.proofs.values.prefix.Goals as goal
 
 pub before-requires : goal.before-requires

@@ -1,10 +1,9 @@
-use Rattle.std.proofs.Common.{◌++◌, refl}
+use Rattle.std.proofs.Common.{◌++◌, refl, [], ◌∷◌}
 use Rattle.std.specs.Prelude.{string_bytes}
 use Rattle.std.specs.Str.{chars, encode_utf8_all}
 use Rattle.std.specs.List.{filter}
-use Rattle.query_values.specs.Values.{is_no_backslash}
-use Rattle.bm_term.proofs.WalkLaws.{walk_step, walk_end}
-use Rattle.std.proofs.Common.{[], ◌∷◌}
+use Rattle.query_values.specs.reading.Values.{is_no_backslash}
+use Rattle.rdf_text.proofs.WalkLaws.{walk_step, walk_end}
 use Rattle.std.proofs.lemmas.List.Elements.{filter-append}
 use Rattle.query_values.proofs.values.push_without_backslashes.Goals as goal
 

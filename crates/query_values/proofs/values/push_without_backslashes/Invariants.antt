@@ -4,7 +4,7 @@ use denote.Text.{Utf8}
 use denote.Shadow.{shadow}
 use Rattle.std.specs.Str.{chars, encode_utf8_all}
 use Rattle.std.specs.List.{filter}
-use Rattle.query_values.specs.Values.{is_no_backslash}
+use Rattle.query_values.specs.reading.Values.{is_no_backslash}
 use Rattle.query_values.proofs.values.push_without_backslashes.Given as goal
 
 abbrev pub invariant-loop-c : goal.invariant-loop-c

@@ -1,6 +1,6 @@
 use Rattle.std.specs.Str.{chars}
 use Rattle.rdf_escapes.specs.Strings.{IsStringPiece}
-use Rattle.rdf_escapes.specs.Reading.{string_piece}
+use Rattle.rdf_escapes.specs.scanning.Strings.{string_piece}
 use Rattle.rdf_escapes.proofs.PieceLaws.{longest}
 use Rattle.rdf_escapes.proofs.CharacterLaws.{string_piece-forward, string_piece-passes, string_piece-over}
 use Rattle.rdf_escapes.proofs.strings.after_string_pieces.Goals as goal

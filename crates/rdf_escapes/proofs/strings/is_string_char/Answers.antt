@@ -1,9 +1,9 @@
 use Rattle.std.proofs.Common.{◌≡◌, true, arith, ◌∙◌}
 use Rattle.std.proofs.lemmas.Bool.Decides.{nat_tests}
 use lib.Utf8.{scalar}
-use Rattle.bm_term.specs.Classes.{is_scalar}
+use Rattle.rdf_text.specs.Classes.{is_scalar}
 use Rattle.rdf_escapes.specs.Strings.{is_string_char}
-use Rattle.bm_term.proofs.Scalars.{is_scalar-scalar}
+use Rattle.rdf_text.proofs.Scalars.{is_scalar-scalar}
 use Rattle.rdf_escapes.proofs.strings.is_string_char.Goals.{in-92, in_default}
 use Rattle.rdf_escapes.proofs.strings.is_string_char.Goals as goal
 

@@ -2,8 +2,8 @@ use Rattle.std.proofs.Common.{◌≡◌, length}
 use denote.Text.{Utf8}
 use denote.Shadow.{shadow}
 use Rattle.std.specs.Str.{chars}
-use Rattle.rdf_escapes.specs.Pieces.{after_values}
-use Rattle.rdf_escapes.specs.Reading.{string_piece}
+use Rattle.rdf_escapes.specs.scanning.Pieces.{after_values}
+use Rattle.rdf_escapes.specs.scanning.Strings.{string_piece}
 use Rattle.rdf_escapes.proofs.strings.skip_string_pieces.Given as goal
 
 abbrev pub invariant-loop-after : goal.invariant-loop-after

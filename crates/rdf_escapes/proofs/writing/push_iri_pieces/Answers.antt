@@ -1,8 +1,8 @@
 use Rattle.std.proofs.Common.{◌++◌}
 use Rattle.std.specs.Prelude.{string_bytes}
 use Rattle.std.specs.Str.{chars, encode_utf8_all}
-use Rattle.rdf_escapes.specs.Pieces.{values}
-use Rattle.rdf_escapes.specs.Reading.{iri_piece}
+use Rattle.rdf_escapes.specs.scanning.Pieces.{values}
+use Rattle.rdf_escapes.specs.scanning.Iris.{iri_piece}
 use Rattle.rdf_escapes.proofs.WritingLaws.{iri_step, iri_end}
 use Rattle.rdf_escapes.proofs.writing.push_iri_pieces.Goals as goal
 

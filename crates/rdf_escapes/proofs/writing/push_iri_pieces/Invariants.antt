@@ -3,8 +3,8 @@ use Rattle.std.specs.Prelude.{string_bytes}
 use denote.Text.{Utf8}
 use denote.Shadow.{shadow}
 use Rattle.std.specs.Str.{chars, encode_utf8_all}
-use Rattle.rdf_escapes.specs.Pieces.{values}
-use Rattle.rdf_escapes.specs.Reading.{iri_piece}
+use Rattle.rdf_escapes.specs.scanning.Pieces.{values}
+use Rattle.rdf_escapes.specs.scanning.Iris.{iri_piece}
 use Rattle.rdf_escapes.proofs.writing.push_iri_pieces.Given as goal
 
 abbrev pub invariant-loop-c : goal.invariant-loop-c

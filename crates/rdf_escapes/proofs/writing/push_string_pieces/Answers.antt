@@ -1,9 +1,9 @@
 use Rattle.std.proofs.Common.{◌++◌}
 use Rattle.std.specs.Prelude.{string_bytes}
 use Rattle.std.specs.Str.{chars, encode_utf8_all}
-use Rattle.bm_term.specs.Canonical.{escaped}
-use Rattle.rdf_escapes.specs.Pieces.{values}
-use Rattle.rdf_escapes.specs.Reading.{string_piece}
+use Rattle.rdf_text.specs.Spelling.{escaped}
+use Rattle.rdf_escapes.specs.scanning.Pieces.{values}
+use Rattle.rdf_escapes.specs.scanning.Strings.{string_piece}
 use Rattle.rdf_escapes.proofs.WritingLaws.{string_step, string_end}
 use Rattle.rdf_escapes.proofs.writing.push_string_pieces.Goals as goal
 

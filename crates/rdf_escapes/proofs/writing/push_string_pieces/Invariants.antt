@@ -3,9 +3,9 @@ use Rattle.std.specs.Prelude.{string_bytes}
 use denote.Text.{Utf8}
 use denote.Shadow.{shadow}
 use Rattle.std.specs.Str.{chars, encode_utf8_all}
-use Rattle.bm_term.specs.Canonical.{escaped}
-use Rattle.rdf_escapes.specs.Pieces.{values}
-use Rattle.rdf_escapes.specs.Reading.{string_piece}
+use Rattle.rdf_text.specs.Spelling.{escaped}
+use Rattle.rdf_escapes.specs.scanning.Pieces.{values}
+use Rattle.rdf_escapes.specs.scanning.Strings.{string_piece}
 use Rattle.rdf_escapes.proofs.writing.push_string_pieces.Given as goal
 
 abbrev pub invariant-loop-c : goal.invariant-loop-c

@@ -1,8 +1,8 @@
 -- one token more
 use Rattle.std.proofs.Common.{map, ◌∙◌, ap, arith}
-use Rattle.sparql_parse.specs.Building.{State}
-use Rattle.sparql_parse.specs.Builds.{labelled_in, state_in}
-use Rattle.sparql_parse.specs.Scopes.{scope_in}
+use Rattle.sparql_parse.specs.computed.Building.{State}
+use Rattle.sparql_parse.specs.held.Builds.{labelled_in, state_in}
+use Rattle.sparql_parse.specs.held.Scopes.{scope_in}
 use Rattle.sparql_parse.proofs.BuildLaws.{built-more}
 use Rattle.sparql_parse.proofs.Counting.{next-bound}
 use Rattle.sparql_parse.proofs.build.take_all.Goals as goal

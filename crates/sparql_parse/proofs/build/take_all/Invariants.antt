@@ -1,8 +1,8 @@
 -- the tokens before are taken
 use Rattle.std.proofs.Common.{◌≡◌, map, take}
-use Rattle.sparql_parse.specs.Building.{built}
-use Rattle.sparql_parse.specs.Builds.{IsSoundState, labelled_in, state_in}
-use Rattle.sparql_parse.specs.Scopes.{scope_in}
+use Rattle.sparql_parse.specs.computed.Building.{built}
+use Rattle.sparql_parse.specs.held.Builds.{IsSoundState, labelled_in, state_in}
+use Rattle.sparql_parse.specs.held.Scopes.{scope_in}
 use Rattle.sparql_parse.proofs.build.take_all.Given as goal
 
 abbrev pub invariant-loop-read : goal.invariant-loop-read

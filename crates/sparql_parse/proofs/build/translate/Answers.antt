@@ -1,8 +1,8 @@
 -- what is built is what the tree means
 use Rattle.std.proofs.Common.{map, ◌∙◌, ap, sym, subst}
-use Rattle.sparql_parse.specs.Building.{State, IsBuilt, built}
-use Rattle.sparql_parse.specs.Builds.{labelled_in, state_in}
-use Rattle.sparql_parse.specs.Scopes.{scope_in}
+use Rattle.sparql_parse.specs.computed.Building.{State, IsBuilt, built}
+use Rattle.sparql_parse.specs.held.Builds.{labelled_in, state_in}
+use Rattle.sparql_parse.specs.held.Scopes.{scope_in}
 use Rattle.sparql_parse.proofs.BuildLaws.{translated}
 use Rattle.sparql_parse.proofs.Queries.{query-built}
 use Rattle.sparql_parse.proofs.build.translate.Goals as goal

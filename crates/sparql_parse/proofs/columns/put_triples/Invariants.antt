@@ -2,7 +2,7 @@
 use Rattle.std.proofs.Common.{◌≡◌, map, take}
 use Rattle.std.specs.List.{fold, flat_map}
 use Rattle.alg_model.specs.Pattern.{triple_vars}
-use Rattle.sparql_parse.specs.Meaning.{with_number}
+use Rattle.sparql_parse.specs.computed.Meaning.{with_number}
 use Rattle.sparql_parse.proofs.columns.put_triples.Given as goal
 
 abbrev pub invariant-loop-pattern : goal.invariant-loop-pattern

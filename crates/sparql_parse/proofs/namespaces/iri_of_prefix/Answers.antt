@@ -1,7 +1,7 @@
 use Rattle.std.proofs.Common.{sym, subst, Some, None, reverse}
 use Rattle.std.specs.Option.{IfSome}
 use Rattle.std.specs.List.{find}
-use Rattle.sparql_parse.specs.Namespaces.{IsNamespace}
+use Rattle.sparql_parse.specs.held.Namespaces.{IsNamespace}
 use Rattle.sparql_parse.proofs.NamespaceLaws.{by_bytes, namespace_found, find-All, All-reverse}
 use Rattle.sparql_parse.proofs.namespaces.iri_of_prefix.Goals as goal
 

@@ -2,9 +2,9 @@ use Rattle.std.proofs.Common.{not, ap, ◌∙◌}
 use Rattle.std.specs.List.{position}
 use Rattle.std.specs.Option.{is_none, is_some}
 use Rattle.query_tokens.specs.Token.{shown}
-use Rattle.query_values.specs.Values.{name_of}
-use Rattle.sparql_parse.specs.Names.{is_text}
-use Rattle.sparql_parse.specs.Naming.{is_new_name}
+use Rattle.query_values.specs.reading.Values.{name_of}
+use Rattle.sparql_parse.specs.computed.Names.{is_text}
+use Rattle.sparql_parse.specs.computed.Naming.{is_new_name}
 use Rattle.sparql_parse.proofs.NameLaws.{is_some-position, not_back}
 use Rattle.sparql_parse.proofs.naming.is_new.Goals as goal
 

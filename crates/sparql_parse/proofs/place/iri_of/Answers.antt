@@ -2,9 +2,9 @@
 use Rattle.std.specs.Prelude.{string_bytes}
 use Rattle.std.specs.Str.{chars}
 use Rattle.query_tokens.specs.Token.{shown}
-use Rattle.sparql_parse.specs.Scopes.{scope_in}
-use Rattle.query_values.specs.Values.{iri_of, prefixed_iri}
-use Rattle.sparql_parse.specs.Meaning.{iri_in}
+use Rattle.sparql_parse.specs.held.Scopes.{scope_in}
+use Rattle.query_values.specs.reading.Values.{iri_of, prefixed_iri}
+use Rattle.sparql_parse.specs.computed.Meaning.{iri_in}
 use Rattle.sparql_parse.proofs.PlaceLaws.{ok_irichars, ok_same, iri_in-other, prefixed-irichars}
 use Rattle.query_values.proofs.SpelledValues.{iri_of-irichars}
 use Rattle.sparql_parse.proofs.place.iri_of.Goals as goal

@@ -2,8 +2,8 @@
 use Rattle.std.proofs.Common.{List, ℕ, [], Option, refl, ap, ◌∙◌}
 use Rattle.std.specs.Option.{option_map_or}
 use Rattle.std.proofs.lemmas.Str.{chars-nil}
-use Rattle.sparql_parse.specs.Names.{namespace_of}
-use Rattle.sparql_parse.specs.Scopes.{scope_in}
+use Rattle.sparql_parse.specs.computed.Names.{namespace_of}
+use Rattle.sparql_parse.specs.held.Scopes.{scope_in}
 use Rattle.sparql_parse.proofs.place.namespace.Goals as goal
 
 pub returns-in-None-clause-namespace : goal.returns-in-None-clause-namespace

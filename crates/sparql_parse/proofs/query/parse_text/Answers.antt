@@ -2,7 +2,7 @@ use Rattle.std.proofs.Common.{inl, inr, length, map, subst, sym, ap, Ok, Err, â—
 use Rattle.std.proofs.lemmas.Bool.{falseâ‰¢true}
 use Rattle.query_tokens.specs.Token.{shown}
 use Rattle.query_tokens.specs.Tokens.{AreTokens}
-use Rattle.sparql_parse.specs.Readers.{reading_in}
+use Rattle.sparql_parse.specs.held.Readers.{reading_in}
 use Rattle.query_values.proofs.SourceTokens.{spelled_tokens}
 use Rattle.sparql_parse.proofs.QueryReading.{text-read, ends, goes_on}
 use Rattle.sparql_parse.proofs.query.parse_text.Goals as goal

@@ -1,5 +1,5 @@
 use Rattle.std.proofs.Common.{inl, inr, sym, ◌∙◌}
-use Rattle.sparql_parse.specs.Readers.{reading_in}
+use Rattle.sparql_parse.specs.held.Readers.{reading_in}
 use Rattle.sparql_parse.proofs.ReadingLaws.{place-fault, place-more, place-spelled, place-end}
 use Rattle.sparql_parse.proofs.query.read_all.Goals as goal
 

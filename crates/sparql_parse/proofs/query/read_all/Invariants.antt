@@ -1,7 +1,7 @@
 use Rattle.std.proofs.Common.{◌≡◌, drop, map}
 use Rattle.query_tokens.specs.Token.{shown}
-use Rattle.sparql_parse.specs.Reading.{first, read_on}
-use Rattle.sparql_parse.specs.Readers.{IsKept, reading_in}
+use Rattle.sparql_parse.specs.computed.Reading.{first, read_on}
+use Rattle.sparql_parse.specs.held.Readers.{IsKept, reading_in}
 use Rattle.sparql_parse.proofs.query.read_all.Given as goal
 
 -- what is left is read from where the reader stands

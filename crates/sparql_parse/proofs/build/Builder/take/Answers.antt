@@ -3,9 +3,9 @@ use Rattle.std.proofs.Common.{sym, ◌∙◌, ap}
 use Rattle.query_tokens.specs.Token.{shown}
 use Rattle.query_grammar.specs.Terminals.{terminal_of}
 use Rattle.query_grammar.specs.declared.syntax.Role.{Role}
-use Rattle.sparql_parse.specs.Building.{in_role, step}
-use Rattle.sparql_parse.specs.Builds.{state_in}
-use Rattle.sparql_parse.specs.Scopes.{scope_in}
+use Rattle.sparql_parse.specs.computed.Building.{in_role, step}
+use Rattle.sparql_parse.specs.held.Builds.{state_in}
+use Rattle.sparql_parse.specs.held.Scopes.{scope_in}
 use Rattle.sparql_parse.proofs.build.Builder.take.Goals as goal
 
 pub returns-in-Tag-clause-state : goal.returns-in-Tag-clause-state

@@ -3,9 +3,9 @@ use Rattle.alg_model.specs.Pattern.{algebra_of}
 use Rattle.query_grammar.specs.Grammar.{IsQuery}
 use Rattle.query_tokens.specs.Token.{shown}
 use Rattle.sparql_parse.specs.declared.build.ReadToken.{ReadToken}
-use Rattle.sparql_parse.specs.Builds.{labelled_in}
-use Rattle.query_values.specs.Values.{IsSpelled}
-use Rattle.sparql_parse.specs.Readers.{labels_in}
+use Rattle.sparql_parse.specs.held.Builds.{labelled_in}
+use Rattle.query_values.specs.reading.Values.{IsSpelled}
+use Rattle.sparql_parse.specs.held.Readers.{labels_in}
 use Rattle.sparql_parse.proofs.QueryReading.{query_with, spelled-items, kept-query}
 use Rattle.sparql_parse.proofs.ReadLimits.{kept-limits}
 use Rattle.sparql_parse.proofs.query.Reader.into_query.Goals as goal

@@ -3,8 +3,9 @@ use Rattle.query_tokens.specs.Token.{shown}
 use Rattle.query_grammar.specs.Expecting.{next_step}
 use Rattle.query_grammar.specs.Terminals.{terminal_of}
 use Rattle.sparql_parse.proofs.ReadingLaws.{reading_at}
-use Rattle.sparql_parse.specs.Readers.{labels_in, reading_in}
-use Rattle.sparql_parse.proofs.ReadingLaws.{read-spelled, fault-step, kept-step, next-unread, next-read, next-fault}
+use Rattle.sparql_parse.specs.held.Readers.{labels_in, reading_in}
+use Rattle.sparql_parse.proofs.TokenRoles.{read-spelled}
+use Rattle.sparql_parse.proofs.ReadingLaws.{fault-step, kept-step, next-unread, next-read, next-fault}
 use Rattle.sparql_parse.proofs.query.Reader.take.Goals as goal
 
 pub take-requires : goal.take-requires

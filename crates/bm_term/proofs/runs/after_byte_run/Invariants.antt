@@ -1,9 +1,0 @@
-use Rattle.std.proofs.Common.{◌≡◌, length}
-use Rattle.bm_term.specs.Text.{after_run}
-use Rattle.bm_term.proofs.runs.after_byte_run.Given as goal
-
-abbrev pub invariant-loop-rest : goal.invariant-loop-rest
-invariant-loop-rest g l = after_run g.C.ByteClass.members l.rest ≡ after_run g.C.ByteClass.members l.bytes
-
-abbrev pub decreases-loop-rest : goal.decreases-loop-rest
-decreases-loop-rest g l = length l.rest

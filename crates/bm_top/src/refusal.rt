@@ -1,0 +1,38 @@
+use sparql_parse::QueryFault;
+
+/// Why a query is refused.
+#[derive(Clone, Copy, Debug)]
+pub(crate) enum QueryRefusal {
+    /// The text denotes no query: its first fault.
+    Fault { fault: QueryFault },
+}
+
+/// Why a command is refused, with what its line names.
+#[derive(Clone, Copy, Debug)]
+pub(crate) enum Refusal<'a> {
+    /// The words are no command.
+    Usage,
+    /// The data has a bad line, of which this is the first, counted from 1.
+    BadLine { line: u64 },
+    /// The query is refused.
+    Query { refusal: QueryRefusal },
+    /// A file has more bytes than its limit.
+    TooLong { name: &'a str, limit: u64 },
+}
+
+impl Refusal<'_> {
+    ghost use Rattle.std.specs.Prelude.{◌≡◌};
+    ghost use Rattle.bm_top.specs.Lines.{refusal_status};
+
+    /// The status that the program ends with.
+    pub(crate) fn status(&self) -> u8
+        ensures { result ≡ refusal_status self.now }
+    {
+        match self {
+            Refusal::Usage => 1,
+            Refusal::BadLine { .. } => 2,
+            Refusal::Query { .. } => 3,
+            Refusal::TooLong { .. } => 8,
+        }
+    }
+}

@@ -1,0 +1,11 @@
+pub mod TextLemmas
+pub mod RepetitionLemmas
+pub mod Longest
+pub mod DottedNames
+pub mod LanguageTags
+pub mod Scalars
+pub mod Spellings
+pub mod Unescaping
+pub mod ByteRuns
+pub mod WalkLaws
+pub mod Examples

@@ -1,0 +1,175 @@
+-- The pattern of a query by its nodes' places is the one that is computed.
+use Rattle.std.proofs.Common.{◌≡◌, ℕ, ◌+◌, List, [], ◌∷◌, ◌++◌, map, length, refl, sym, ap, subst, ◌∙◌, arith, length-append, append_assoc}
+use Rattle.std.specs.List.{range_with_len}
+use Rattle.query_grammar.specs.Roles.{Labelled}
+use Rattle.query_grammar.specs.Tree.{Same, Parts, NoParts, OptionalPart, NestedPart, Group}
+use Rattle.alg_model.specs.declared.pattern.Place.{Place}
+use Rattle.alg_model.specs.declared.pattern.TriplePat.{TriplePat}
+use Rattle.alg_model.specs.Pattern.{Algebra, Bgp, Join, LeftJoin, triple_patterns}
+use Rattle.sparql_parse.specs.computed.Meaning.{Scope, Translated, place_of, patterns_from, empty_group, pattern_of}
+use Rattle.sparql_parse.specs.Translation.{NodeTriple, triples_of_block}
+use Rattle.sparql_parse.specs.computed.Meaning as computed
+use Rattle.sparql_parse.specs.OneByOne.{OneByOne}
+use Rattle.sparql_parse.specs.Translation.{NodePattern, NodeBgp, NodeJoin, NodeLeftJoin, with_block, with_parts, translated, IsTripleOf, IsPatternOf, IsNumbered}
+use Rattle.sparql_parse.proofs.LimitLaws.{AreNumbered, AreNumbered-range, group-numbered}
+use Rattle.sparql_parse.proofs.NodeLaws.{Agrees, scope_with, place-is}
+use Rattle.sparql_parse.proofs.QueryNodes.{TriplesPlaces, PatternPlaces}
+
+-- how many triples a pattern has
+abbrev triples : NodePattern → ℕ
+triples (NodeBgp ts) = length ts
+triples (NodeJoin left right) = triples left + triples right
+triples (NodeLeftJoin left right) = triples left + triples right
+
+-- a pattern with the places of its nodes, of which the triple patterns are numbered from n on
+abbrev placed : Scope → ℕ → NodePattern → Algebra
+placed scope n (NodeBgp ts) = Bgp (patterns_from scope n ts)
+placed scope n (NodeJoin left right) = Join (placed scope n left) (placed scope (n + triples left) right)
+placed scope n (NodeLeftJoin left right) = LeftJoin (placed scope n left) (placed scope (n + triples left) right)
+
+-- what is translated so far is a pattern of nodes, placed from n on
+record IsPlaced (scope : Scope) (n : ℕ) (g : Translated) (pattern : NodePattern) : Type 0 where
+  is : g.pattern ≡ placed scope n pattern
+  next : g.next ≡ n + triples pattern
+
+module _ (scope : Scope) where
+  empty-placed : (n : ℕ) → IsPlaced scope n (empty_group n) (NodeBgp [])
+  empty-placed n = record { is = refl; next = omega arith }
+
+  block-placed : (n : ℕ) (g : Translated) (pattern : NodePattern) (block : List Same) → IsPlaced scope n g pattern → IsPlaced scope n (computed.with_block scope g block) (with_block pattern block)
+  block-placed n g pattern [] p = p
+  block-placed n g pattern (same ∷ block) p =
+      let ts = triples_of_block (same ∷ block) in
+      record {
+        is = ap (λ (a : Algebra). Join a (Bgp (patterns_from scope g.next ts))) p.is ∙ ap (λ (m : ℕ). Join (placed scope n pattern) (Bgp (patterns_from scope m ts))) p.next;
+        next = omega (arith, p.next);
+      }
+
+  both-placed : (n : ℕ) (g inner : Translated) (pattern deep : NodePattern) (f : Algebra → Algebra → Algebra) → IsPlaced scope n g pattern → IsPlaced scope g.next inner deep →
+      (f g.pattern inner.pattern ≡ f (placed scope n pattern) (placed scope (n + triples pattern) deep)) × (inner.next ≡ n + (triples pattern + triples deep))
+  both-placed n g inner pattern deep f p q =
+      (ap (λ a. f a inner.pattern) p.is ∙ ap (f (placed scope n pattern)) (q.is ∙ ap (λ m. placed scope m deep) p.next), omega (arith, p.next, q.next))
+
+  parts-placed : (n : ℕ) (g : Translated) (pattern : NodePattern) (parts : Parts) → IsPlaced scope n g pattern → IsPlaced scope n (computed.with_parts scope g parts) (with_parts pattern parts)
+  parts-placed n g pattern NoParts p = p
+  parts-placed n g pattern (OptionalPart block parts next rest) p =
+      let inner = computed.with_parts scope (computed.with_block scope (empty_group g.next) block) parts in
+      let deep = with_parts (with_block (NodeBgp []) block) parts in
+      let q = parts-placed g.next (computed.with_block scope (empty_group g.next) block) (with_block (NodeBgp []) block) parts (block-placed g.next (empty_group g.next) (NodeBgp []) block (empty-placed g.next)) in
+      let (is, count) = both-placed n g inner pattern deep LeftJoin p q in
+      let after : Translated = record { pattern = LeftJoin g.pattern inner.pattern; next = inner.next } in
+      parts-placed n (computed.with_block scope after next) (with_block (NodeLeftJoin pattern deep) next) rest
+      (block-placed n after (NodeLeftJoin pattern deep) next (record { is = is; next = count }))
+  parts-placed n g pattern (NestedPart block parts next rest) p =
+      let inner = computed.with_parts scope (computed.with_block scope (empty_group g.next) block) parts in
+      let deep = with_parts (with_block (NodeBgp []) block) parts in
+      let q = parts-placed g.next (computed.with_block scope (empty_group g.next) block) (with_block (NodeBgp []) block) parts (block-placed g.next (empty_group g.next) (NodeBgp []) block (empty-placed g.next)) in
+      let (is, count) = both-placed n g inner pattern deep Join p q in
+      let after : Translated = record { pattern = Join g.pattern inner.pattern; next = inner.next } in
+      parts-placed n (computed.with_block scope after next) (with_block (NodeJoin pattern deep) next) rest
+      (block-placed n after (NodeJoin pattern deep) next (record { is = is; next = count }))
+
+  group-placed : (group : Group) → pattern_of scope group ≡ placed scope 1 (translated group)
+  group-placed group =
+      (parts-placed 1 (computed.with_block scope (empty_group 1) group.block) (with_block (NodeBgp []) group.block) group.parts
+      (block-placed 1 (empty_group 1) (NodeBgp []) group.block (empty-placed 1))).is
+
+-- the front and the back of numbered triple patterns
+numbered-front : (m : ℕ) (xs ys : List TriplePat) → AreNumbered m (xs ++ ys) → AreNumbered m xs
+numbered-front m [] ys all = tt
+numbered-front m (x ∷ xs) ys (first, rest) = (first, numbered-front (m + 1) xs ys rest)
+
+numbered-back : (m : ℕ) (xs ys : List TriplePat) → AreNumbered m (xs ++ ys) → AreNumbered (m + length xs) ys
+numbered-back m [] ys all = let e : m ≡ m + length {A = TriplePat} [] = omega arith in subst (λ (n : ℕ). AreNumbered n ys) e all
+numbered-back m (x ∷ xs) ys (first, rest) =
+    let e : (m + 1) + length xs ≡ m + length (x ∷ xs) = omega arith in
+    subst (λ (n : ℕ). AreNumbered n ys) e (numbered-back (m + 1) xs ys rest)
+
+range-numbered : (m : ℕ) (ts : List TriplePat) → map (λ t. t.number) ts ≡ range_with_len m (length ts) → AreNumbered m ts
+range-numbered m [] e = tt
+range-numbered m (t ∷ ts) e =
+    let rest : map (λ (x : TriplePat). x.number) ts ≡ range_with_len (m + 1) (length ts) = cc in
+    (cc, range-numbered (m + 1) ts rest)
+
+pub pattern_of-numbered : (scope : Scope) (group : Group) → IsNumbered (pattern_of scope group)
+pattern_of-numbered scope group = AreNumbered-range 1 (triple_patterns (pattern_of scope group)) (group-numbered scope group).numbers
+
+module _ (tokens : List Labelled) (scope : Scope) (agrees : Agrees tokens scope) where
+  -- where the nodes have places, the pattern that is computed is theirs
+  patterns-are : (n : ℕ) (ts : List NodeTriple) → TriplesPlaces tokens scope agrees ts → OneByOne (IsTripleOf (scope_with tokens scope)) ts (patterns_from scope n ts)
+  patterns-are n [] all = tt
+  patterns-are n (t ∷ ts) (first, others) = (record { subject = first.subject; predicate = first.verb; object = first.object }, patterns-are (n + 1) ts others)
+
+  placed-is : (n : ℕ) (pattern : NodePattern) → PatternPlaces tokens scope agrees pattern → IsPatternOf (scope_with tokens scope) pattern (placed scope n pattern)
+  placed-is n (NodeBgp ts) all = patterns-are n ts all
+  placed-is n (NodeJoin left right) (first, second) = (placed-is n left first, placed-is (n + triples left) right second)
+  placed-is n (NodeLeftJoin left right) (first, second) = (placed-is n left first, placed-is (n + triples left) right second)
+
+  pub pattern_of-is : (group : Group) → PatternPlaces tokens scope agrees (translated group) → IsPatternOf (scope_with tokens scope) (translated group) (pattern_of scope group)
+  pattern_of-is group all = subst (IsPatternOf (scope_with tokens scope) (translated group)) (sym (group-placed scope group)) (placed-is 1 (translated group) all)
+
+  -- and a pattern that is theirs, and numbered, is the one that is computed
+  abbrev triple_at : Place → Place → Place → ℕ → TriplePat
+  triple_at subject predicate object number = record { subject = subject; predicate = predicate; object = object; number = number }
+
+  triple-is : (n : ℕ) (t : NodeTriple) (p : TriplePat) → IsTripleOf (scope_with tokens scope) t p → p.number ≡ n →
+      p ≡ triple_at (place_of scope t.subject) (place_of scope t.verb) (place_of scope t.object) n
+  triple-is n t p is e =
+      ap (λ x. triple_at x p.predicate p.object p.number) (place-is tokens scope agrees t.subject p.subject is.subject)
+      ∙ ap (λ x. triple_at (place_of scope t.subject) x p.object p.number) (place-is tokens scope agrees t.verb p.predicate is.predicate)
+      ∙ ap (λ x. triple_at (place_of scope t.subject) (place_of scope t.verb) x p.number) (place-is tokens scope agrees t.object p.object is.object)
+      ∙ ap (triple_at (place_of scope t.subject) (place_of scope t.verb) (place_of scope t.object)) e
+
+  triples-are : (n : ℕ) (ts : List NodeTriple) (ps : List TriplePat) → OneByOne (IsTripleOf (scope_with tokens scope)) ts ps → AreNumbered n ps → ps ≡ patterns_from scope n ts
+  triples-are n [] [] each numbers = refl
+  triples-are n [] (p ∷ ps) each numbers = absurd each
+  triples-are n (t ∷ ts) [] each numbers = absurd each
+  triples-are n (t ∷ ts) (p ∷ ps) (first, others) (here, rest) =
+      ap (λ x. x ∷ ps) (triple-is n t p first here) ∙ ap (λ xs. triple_at (place_of scope t.subject) (place_of scope t.verb) (place_of scope t.object) n ∷ xs) (triples-are (n + 1) ts ps others rest)
+
+  one-length : (ts : List NodeTriple) (ps : List TriplePat) → OneByOne (IsTripleOf (scope_with tokens scope)) ts ps → length ps ≡ length ts
+  one-length [] [] each = refl
+  one-length [] (p ∷ ps) each = absurd each
+  one-length (t ∷ ts) [] each = absurd each
+  one-length (t ∷ ts) (p ∷ ps) (first, others) = let e = one-length ts ps others in omega arith
+
+  same-length : (pattern : NodePattern) (a : Algebra) → IsPatternOf (scope_with tokens scope) pattern a → length (triple_patterns a) ≡ triples pattern
+  same-length (NodeBgp ts) (Bgp ps) each = one-length ts ps each
+  same-length (NodeJoin left right) (Join l r) (first, second) =
+      let a = same-length left l first in
+      let b = same-length right r second in
+      let c = length-append (triple_patterns l) (triple_patterns r) in
+      omega arith
+  same-length (NodeLeftJoin left right) (LeftJoin l r) (first, second) =
+      let a = same-length left l first in
+      let b = same-length right r second in
+      let c = length-append (triple_patterns l) (triple_patterns r) in
+      omega arith
+  same-length (NodeBgp ts) (Join l r) is = absurd is
+  same-length (NodeBgp ts) (LeftJoin l r) is = absurd is
+  same-length (NodeJoin left right) (Bgp ps) is = absurd is
+  same-length (NodeJoin left right) (LeftJoin l r) is = absurd is
+  same-length (NodeLeftJoin left right) (Bgp ps) is = absurd is
+  same-length (NodeLeftJoin left right) (Join l r) is = absurd is
+
+  right-numbered : (n : ℕ) (left : NodePattern) (l r : Algebra) → IsPatternOf (scope_with tokens scope) left l → AreNumbered n (triple_patterns l ++ triple_patterns r) → AreNumbered (n + triples left) (triple_patterns r)
+  right-numbered n left l r is numbers =
+      subst (λ (m : ℕ). AreNumbered (n + m) (triple_patterns r)) (same-length left l is) (numbered-back n (triple_patterns l) (triple_patterns r) numbers)
+
+  is-placed : (n : ℕ) (pattern : NodePattern) (a : Algebra) → IsPatternOf (scope_with tokens scope) pattern a → AreNumbered n (triple_patterns a) → a ≡ placed scope n pattern
+  is-placed n (NodeBgp ts) (Bgp ps) each numbers = ap Bgp (triples-are n ts ps each numbers)
+  is-placed n (NodeJoin left right) (Join l r) (first, second) numbers =
+      ap (λ x. Join x r) (is-placed n left l first (numbered-front n (triple_patterns l) (triple_patterns r) numbers))
+      ∙ ap (Join (placed scope n left)) (is-placed (n + triples left) right r second (right-numbered n left l r first numbers))
+  is-placed n (NodeLeftJoin left right) (LeftJoin l r) (first, second) numbers =
+      ap (λ x. LeftJoin x r) (is-placed n left l first (numbered-front n (triple_patterns l) (triple_patterns r) numbers))
+      ∙ ap (LeftJoin (placed scope n left)) (is-placed (n + triples left) right r second (right-numbered n left l r first numbers))
+  is-placed n (NodeBgp ts) (Join l r) is numbers = absurd is
+  is-placed n (NodeBgp ts) (LeftJoin l r) is numbers = absurd is
+  is-placed n (NodeJoin left right) (Bgp ps) is numbers = absurd is
+  is-placed n (NodeJoin left right) (LeftJoin l r) is numbers = absurd is
+  is-placed n (NodeLeftJoin left right) (Bgp ps) is numbers = absurd is
+  is-placed n (NodeLeftJoin left right) (Join l r) is numbers = absurd is
+
+  pub is-pattern_of : (group : Group) (a : Algebra) → IsPatternOf (scope_with tokens scope) (translated group) a → IsNumbered a → a ≡ pattern_of scope group
+  is-pattern_of group a is numbered = is-placed 1 (translated group) a is (range-numbered 1 (triple_patterns a) numbered) ∙ sym (group-placed scope group)

@@ -1,0 +1,289 @@
+-- The nodes of a query whose tokens are good have places, and its columns have numbers.
+use Rattle.std.proofs.Common.{◌≡◌, ◌≢◌, ◌⊎◌, inl, inr, ℕ, true, false, Bool, List, [], ◌∷◌, ◌++◌, map, subst, refl}
+use Rattle.std.specs.List.{flat_map}
+use Rattle.query_tokens.specs.Token.{Lexeme}
+use Rattle.query_grammar.specs.declared.terminal.Terminal.{Terminal}
+use Rattle.query_grammar.specs.declared.terminal.Terminal.TheVariants as terminals
+use Rattle.query_grammar.specs.declared.syntax.Role.{Role}
+use Rattle.query_grammar.specs.declared.syntax.Role.TheVariants as roles
+use Rattle.query_grammar.specs.Terminals.{terminal_of}
+use Rattle.query_grammar.specs.Roles.{Labelled, with_role}
+use Rattle.query_grammar.specs.Tree.{Node, VariableNode, IriNode, StringNode, TaggedNode, TypedNode, NumberNode, BooleanNode, TypeNode, Property, Same, Parts, NoParts, OptionalPart, NestedPart, Group, Declaration, Columns, AllColumns, Variables, Syntax}
+use Rattle.query_grammar.specs.Grammar.{Spelling, ◌▸◌, Nothing, Never, Maybe, Many, none, more, Token, SomeToken, Keyword, IsIri, IsNode, IsVerb, AreMoreObjects, AreObjects, IsProperty, AreMoreProperties, AreProperties, IsSame, AreMoreSames, IsBlock, InBraces, AreParts, IsGroup, AreMoreVariables, AreVariables, AreColumns, IsDistinct, IsDeclaration, IsPrologue, SpellsQuery}
+use Rattle.query_values.specs.reading.Values.{name_of}
+use Rattle.sparql_parse.specs.computed.Meaning.{Scope, number_of}
+use Rattle.sparql_parse.specs.Translation.{NodeTriple, triples_of_property, triples_of_same, triples_of_block}
+use Rattle.sparql_parse.specs.OneByOne.{OneByOne}
+use Rattle.sparql_parse.specs.Names.{HasNumber}
+use Rattle.sparql_parse.specs.Translation.{NodePattern, NodeBgp, NodeJoin, NodeLeftJoin, with_block, with_parts, translated}
+use Rattle.sparql_parse.proofs.NodeLaws.{Agrees, IsGood, HasPlace, number-of, variable-place, iri-place, string-place, tagged-place, typed-place, number-place, boolean-place, type-place}
+
+abbrev pub AreGood : Scope → List Labelled → Type 0
+AreGood scope [] = Unit {0}
+AreGood scope (l ∷ ls) = IsGood scope l × AreGood scope ls
+
+module _ (tokens : List Labelled) (scope : Scope) (agrees : Agrees tokens scope) where
+  abbrev Place : Node → Type 0
+  Place node = HasPlace tokens scope agrees node
+
+  -- a symbol of the grammar, of whose tokens this is known, and which leaves good tokens
+  record Gives (symbol : Spelling) (X : Type 0) : Type 0 where
+    give : (from to : List Labelled) → symbol from to → AreGood scope from → X × AreGood scope to
+
+  g-then : {A B : Spelling} {X Y : Type 0} → Gives A X → Gives B Y → Gives (A ▸ B) (X × Y)
+  g-then first second = record {
+    give = λ from to (middle, a, b) good.
+        let (x, rest) = first.give from middle a good in
+        let (y, others) = second.give middle to b rest in
+        ((x, y), others);
+  }
+
+  g-map : {A : Spelling} {X Y : Type 0} → (X → Y) → Gives A X → Gives A Y
+  g-map change gives = record { give = λ from to a good. let (x, rest) = gives.give from to a good in (change x, rest) }
+
+  g-nothing : {X : Type 0} → X → Gives Nothing X
+  g-nothing x = record { give = λ from to e good. (x, subst (AreGood scope) e good) }
+
+  g-never : {X : Type 0} → Gives Never X
+  g-never = record { give = λ from to impossible good. absurd impossible }
+
+  abbrev IsA : Terminal → Role → Lexeme → Type 0
+  IsA terminal role token = IsGood scope (with_role role token) × (terminal_of token ≡ terminal)
+
+  g-token : (terminal : Terminal) (role : Role) (token : Lexeme) → Gives (Token terminal role token) (IsA terminal role token)
+  g-token terminal role token = record { give = λ from to (e, split) good. let (first, rest) = subst (AreGood scope) split good in ((first, e), rest) }
+
+  g-some : (terminal : Terminal) (role : Role) → Gives (SomeToken terminal role) (Unit {0})
+  g-some terminal role = record { give = λ from to (token, (e, split)) good. let (first, rest) = subst (AreGood scope) split good in (tt, rest) }
+
+  g-maybe : {A : Spelling} {X : Type 0} → Gives A X → Gives (Maybe A) (Unit {0})
+  g-maybe gives = record {
+    give = λ from to either good.
+        elim either [
+          | inl a ↦ (let (x, rest) = gives.give from to a good in (tt, rest))
+          | inr e ↦ (tt, subst (AreGood scope) e good)
+        ];
+  }
+
+  many-good : (terminal : Terminal) (from to : List Labelled) → Many (Keyword terminal) from to → AreGood scope from → AreGood scope to
+  many-good terminal from to (none same) good = good
+  many-good terminal from to (more start middle end first rest) good =
+      many-good terminal middle end rest ((g-some terminal roles.Keyword).give start middle first good).1
+
+  g-many : (terminal : Terminal) → Gives (Many (Keyword terminal)) (Unit {0})
+  g-many terminal = record { give = λ from to many good. (tt, many-good terminal from to many good) }
+
+  -- nodes
+  g-iri : (role : Role) → role ≢ roles.Declared → (token : Lexeme) → Gives (IsIri role token) (Place (IriNode token))
+  g-iri role used token = record {
+    give = λ from to either good.
+        elim either [
+          | inl a ↦ (let ((is, e), rest) = (g-token terminals.Iri role token).give from to a good in (iri-place tokens scope agrees role token used is (inl e), rest))
+          | inr (inl a) ↦ (let ((is, e), rest) = (g-token terminals.Prefixed role token).give from to a good in (iri-place tokens scope agrees role token used is (inr (inl e)), rest))
+          | inr (inr a) ↦ (let ((is, e), rest) = (g-token terminals.Prefix role token).give from to a good in (iri-place tokens scope agrees role token used is (inr (inr e)), rest))
+        ];
+  }
+
+  abbrev IsDatatype : Lexeme → Type 0
+  IsDatatype token = IsGood scope (with_role roles.Datatype token) × ((terminal_of token ≡ terminals.Iri) ⊎ ((terminal_of token ≡ terminals.Prefixed) ⊎ (terminal_of token ≡ terminals.Prefix)))
+
+  g-datatype : (token : Lexeme) → Gives (IsIri roles.Datatype token) (IsDatatype token)
+  g-datatype token = record {
+    give = λ from to either good.
+        elim either [
+          | inl a ↦ (let ((is, e), rest) = (g-token terminals.Iri roles.Datatype token).give from to a good in ((is, inl e), rest))
+          | inr (inl a) ↦ (let ((is, e), rest) = (g-token terminals.Prefixed roles.Datatype token).give from to a good in ((is, inr (inl e)), rest))
+          | inr (inr a) ↦ (let ((is, e), rest) = (g-token terminals.Prefix roles.Datatype token).give from to a good in ((is, inr (inr e)), rest))
+        ];
+  }
+
+  g-node : (role : Role) → role ≢ roles.Declared → (node : Node) → Gives (IsNode role node) (Place node)
+  g-node role used (VariableNode token) = g-map (λ (is, e). variable-place tokens scope agrees role token is e) (g-token terminals.Variable role token)
+  g-node role used (IriNode token) = g-iri role used token
+  g-node role used (StringNode token) = g-map (λ (is, e). string-place tokens scope agrees token is.spelled e) (g-token terminals.Quoted role token)
+  g-node role used (TaggedNode token mark) =
+      g-map (λ ((is, e), (mark_is, t)). tagged-place tokens scope agrees token mark is.spelled e mark_is.spelled t) (g-then (g-token terminals.Quoted role token) (g-token terminals.Tag roles.Tag mark))
+  g-node role used (TypedNode token name) =
+      g-map (λ ((is, e), (carets, (name_is, t))). typed-place tokens scope agrees token name is.spelled e name_is t) (g-then (g-token terminals.Quoted role token) (g-then (g-some terminals.Carets roles.Keyword) (g-datatype name)))
+  g-node role used (NumberNode token) = g-map (λ (is, e). number-place tokens scope agrees token e) (g-token terminals.Number role token)
+  g-node role used (BooleanNode token) = g-map (λ (is, e). boolean-place tokens scope agrees token e) (g-token terminals.Boolean role token)
+  g-node role used (TypeNode token) = g-never
+
+  g-verb : (node : Node) → Gives (IsVerb node) (Place node)
+  g-verb (VariableNode token) = g-map (λ (is, e). variable-place tokens scope agrees roles.Verb token is e) (g-token terminals.Variable roles.Verb token)
+  g-verb (IriNode token) = g-iri roles.Verb (λ same. cc) token
+  g-verb (TypeNode token) = g-map (λ (is, e). type-place tokens scope agrees token) (g-token terminals.A roles.Verb token)
+  g-verb (StringNode token) = g-never
+  g-verb (TaggedNode token mark) = g-never
+  g-verb (TypedNode token name) = g-never
+  g-verb (NumberNode token) = g-never
+  g-verb (BooleanNode token) = g-never
+
+  -- lists of nodes
+  abbrev Places : List Node → Type 0
+  Places [] = Unit {0}
+  Places (node ∷ nodes) = Place node × Places nodes
+
+  object_role : roles.Object ≢ roles.Declared
+  object_role = λ same. cc
+
+  g-more_objects : (nodes : List Node) → Gives (AreMoreObjects nodes) (Places nodes)
+  g-more_objects [] = g-nothing tt
+  g-more_objects (node ∷ nodes) =
+      g-map (λ (comma, (first, others)). (first, others)) (g-then (g-some terminals.Comma roles.Keyword) (g-then (g-node roles.Object object_role node) (g-more_objects nodes)))
+
+  g-objects : (nodes : List Node) → Gives (AreObjects nodes) (Places nodes)
+  g-objects [] = g-never
+  g-objects (node ∷ nodes) = g-then (g-node roles.Object object_role node) (g-more_objects nodes)
+
+  abbrev PropertyPlaces : Property → Type 0
+  PropertyPlaces property = Place property.verb × Places property.objects
+
+  g-property : (property : Property) → Gives (IsProperty property) (PropertyPlaces property)
+  g-property property = g-then (g-verb property.verb) (g-objects property.objects)
+
+  abbrev PropertiesPlaces : List Property → Type 0
+  PropertiesPlaces [] = Unit {0}
+  PropertiesPlaces (property ∷ properties) = PropertyPlaces property × PropertiesPlaces properties
+
+  g-more_properties : (properties : List Property) → Gives (AreMoreProperties properties) (PropertiesPlaces properties)
+  g-more_properties [] = g-map (λ many. tt) (g-many terminals.Semicolon)
+  g-more_properties (property ∷ properties) =
+      g-map (λ (one, (many, (first, others))). (first, others))
+      (g-then (g-some terminals.Semicolon roles.Keyword) (g-then (g-many terminals.Semicolon) (g-then (g-property property) (g-more_properties properties))))
+
+  g-properties : (properties : List Property) → Gives (AreProperties properties) (PropertiesPlaces properties)
+  g-properties [] = g-never
+  g-properties (property ∷ properties) = g-then (g-property property) (g-more_properties properties)
+
+  abbrev SamePlaces : Same → Type 0
+  SamePlaces same = Place same.subject × PropertiesPlaces same.properties
+
+  g-same : (same : Same) → Gives (IsSame same) (SamePlaces same)
+  g-same same = g-then (g-node roles.Subject (λ e. cc) same.subject) (g-properties same.properties)
+
+  abbrev BlockPlaces : List Same → Type 0
+  BlockPlaces [] = Unit {0}
+  BlockPlaces (same ∷ block) = SamePlaces same × BlockPlaces block
+
+  g-more_sames : (block : List Same) → Gives (AreMoreSames block) (BlockPlaces block)
+  g-more_sames [] = g-map (λ stop. tt) (g-maybe (g-some terminals.Stop roles.Keyword))
+  g-more_sames (same ∷ block) =
+      g-map (λ (stop, (first, others)). (first, others)) (g-then (g-some terminals.Stop roles.Keyword) (g-then (g-same same) (g-more_sames block)))
+
+  g-block : (block : List Same) → Gives (IsBlock block) (BlockPlaces block)
+  g-block [] = g-nothing tt
+  g-block (same ∷ block) = g-then (g-same same) (g-more_sames block)
+
+  g-braces : {A : Spelling} {X : Type 0} → Gives A X → Gives (InBraces A) X
+  g-braces gives = g-map (λ (first, (x, last)). x) (g-then (g-some terminals.Open roles.Open) (g-then gives (g-some terminals.Close roles.Close)))
+
+  abbrev PartsPlaces : Parts → Type 0
+  PartsPlaces NoParts = Unit {0}
+  PartsPlaces (OptionalPart block parts next rest) = (BlockPlaces block × PartsPlaces parts) × (BlockPlaces next × PartsPlaces rest)
+  PartsPlaces (NestedPart block parts next rest) = (BlockPlaces block × PartsPlaces parts) × (BlockPlaces next × PartsPlaces rest)
+
+  g-parts : (parts : Parts) → Gives (AreParts parts) (PartsPlaces parts)
+  g-parts NoParts = g-nothing tt
+  g-parts (OptionalPart block parts next rest) =
+      g-map (λ (word, (inside, (stop, others))). (inside, others))
+      (g-then (g-some terminals.OptionalWord roles.Optional) (g-then (g-braces (g-then (g-block block) (g-parts parts))) (g-then (g-maybe (g-some terminals.Stop roles.Keyword)) (g-then (g-block next) (g-parts rest)))))
+  g-parts (NestedPart block parts next rest) =
+      g-map (λ (inside, (stop, others)). (inside, others))
+      (g-then (g-braces (g-then (g-block block) (g-parts parts))) (g-then (g-maybe (g-some terminals.Stop roles.Keyword)) (g-then (g-block next) (g-parts rest))))
+
+  abbrev GroupPlaces : Group → Type 0
+  GroupPlaces group = BlockPlaces group.block × PartsPlaces group.parts
+
+  g-group : (group : Group) → Gives (IsGroup group) (GroupPlaces group)
+  g-group group = g-braces (g-then (g-block group.block) (g-parts group.parts))
+
+  -- the columns
+  abbrev Numbered : List Lexeme → Type 0
+  Numbered ts = OneByOne (HasNumber scope.names) ts (map (λ token. number_of scope.names (name_of token)) ts)
+
+  g-column : (token : Lexeme) → Gives (Token terminals.Variable roles.Column token) (HasNumber scope.names token (number_of scope.names (name_of token)))
+  g-column token = g-map (λ (is, e). number-of tokens scope agrees (with_role roles.Column token) is e) (g-token terminals.Variable roles.Column token)
+
+  g-more_variables : (ts : List Lexeme) → Gives (AreMoreVariables ts) (Numbered ts)
+  g-more_variables [] = g-nothing tt
+  g-more_variables (token ∷ ts) = g-then (g-column token) (g-more_variables ts)
+
+  abbrev pub ColumnNumbers : Columns → Type 0
+  ColumnNumbers AllColumns = Unit {0}
+  ColumnNumbers (Variables ts) = Numbered ts
+
+  g-columns : (columns : Columns) → Gives (AreColumns columns) (ColumnNumbers columns)
+  g-columns AllColumns = g-some terminals.Star roles.AllColumns
+  g-columns (Variables []) = g-never
+  g-columns (Variables (token ∷ ts)) = g-then (g-column token) (g-more_variables ts)
+
+  g-distinct : (distinct : Bool) → Gives (IsDistinct distinct) (Unit {0})
+  g-distinct true = g-some terminals.DistinctWord roles.Distinct
+  g-distinct false = g-nothing tt
+
+  g-prologue : (declarations : List Declaration) → Gives (IsPrologue declarations) (Unit {0})
+  g-prologue [] = g-nothing tt
+  g-prologue (declaration ∷ declarations) =
+      g-map (λ x. tt)
+      (g-then (g-then (g-some terminals.PrefixWord roles.Keyword) (g-then (g-token terminals.Prefix roles.Declared declaration.prefix) (g-token terminals.Iri roles.Namespace declaration.iri))) (g-prologue declarations))
+
+  g-query : (tree : Syntax) → Gives (SpellsQuery tree) (ColumnNumbers tree.columns × GroupPlaces tree.group)
+  g-query tree =
+      g-map (λ (prologue, (select, (distinct, (columns, (where_word, group))))). (columns, group))
+      (g-then (g-prologue tree.declarations) (g-then (g-some terminals.SelectWord roles.Keyword) (g-then (g-distinct tree.distinct) (g-then (g-columns tree.columns) (g-then (g-maybe (g-some terminals.WhereWord roles.Keyword)) (g-group tree.group))))))
+
+  -- triples
+  pub record TriplePlaces (t : NodeTriple) : Type 0 where
+    pub subject : Place t.subject
+    pub verb : Place t.verb
+    pub object : Place t.object
+
+  abbrev pub TriplesPlaces : List NodeTriple → Type 0
+  TriplesPlaces [] = Unit {0}
+  TriplesPlaces (t ∷ ts) = TriplePlaces t × TriplesPlaces ts
+
+  triples-append : (ts us : List NodeTriple) → TriplesPlaces ts → TriplesPlaces us → TriplesPlaces (ts ++ us)
+  triples-append [] us front back = back
+  triples-append (t ∷ ts) us (first, rest) back = (first, triples-append ts us rest back)
+
+  object-triples : (subject verb : Node) (objects : List Node) → Place subject → Place verb → Places objects → TriplesPlaces (map (λ (object : Node). record { subject = subject; verb = verb; object = object }) objects)
+  object-triples subject verb [] s v all = tt
+  object-triples subject verb (object ∷ objects) s v (first, others) = (record { subject = s; verb = v; object = first }, object-triples subject verb objects s v others)
+
+  property-triples : (subject : Node) (properties : List Property) → Place subject → PropertiesPlaces properties → TriplesPlaces (flat_map (triples_of_property subject) properties)
+  property-triples subject [] s all = tt
+  property-triples subject (property ∷ properties) s ((verb, objects), others) =
+      triples-append (triples_of_property subject property) (flat_map (triples_of_property subject) properties) (object-triples subject property.verb property.objects s verb objects) (property-triples subject properties s others)
+
+  block-triples : (block : List Same) → BlockPlaces block → TriplesPlaces (triples_of_block block)
+  block-triples [] all = tt
+  block-triples (same ∷ block) ((subject, properties), others) =
+      triples-append (triples_of_same same) (triples_of_block block) (property-triples same.subject same.properties subject properties) (block-triples block others)
+
+  -- patterns
+  abbrev pub PatternPlaces : NodePattern → Type 0
+  PatternPlaces (NodeBgp ts) = TriplesPlaces ts
+  PatternPlaces (NodeJoin left right) = PatternPlaces left × PatternPlaces right
+  PatternPlaces (NodeLeftJoin left right) = PatternPlaces left × PatternPlaces right
+
+  with_block-places : (pattern : NodePattern) (block : List Same) → PatternPlaces pattern → BlockPlaces block → PatternPlaces (with_block pattern block)
+  with_block-places pattern [] p all = p
+  with_block-places pattern (same ∷ block) p all = (p, block-triples (same ∷ block) all)
+
+  with_parts-places : (pattern : NodePattern) (parts : Parts) → PatternPlaces pattern → PartsPlaces parts → PatternPlaces (with_parts pattern parts)
+  with_parts-places pattern NoParts p all = p
+  with_parts-places pattern (OptionalPart block parts next rest) p ((first, deep), (behind, others)) =
+      let inner = with_parts-places (with_block (NodeBgp []) block) parts (with_block-places (NodeBgp []) block tt first) deep in
+      let both = NodeLeftJoin pattern (with_parts (with_block (NodeBgp []) block) parts) in
+      with_parts-places (with_block both next) rest (with_block-places both next (p, inner) behind) others
+  with_parts-places pattern (NestedPart block parts next rest) p ((first, deep), (behind, others)) =
+      let inner = with_parts-places (with_block (NodeBgp []) block) parts (with_block-places (NodeBgp []) block tt first) deep in
+      let both = NodeJoin pattern (with_parts (with_block (NodeBgp []) block) parts) in
+      with_parts-places (with_block both next) rest (with_block-places both next (p, inner) behind) others
+
+  -- a query whose tokens are good: its columns have numbers, and the nodes of its group have places
+  pub query-places : (tree : Syntax) (labelled : List Labelled) → SpellsQuery tree labelled [] → AreGood scope labelled → ColumnNumbers tree.columns × PatternPlaces (translated tree.group)
+  query-places tree labelled spelled good =
+      let ((columns, group), rest) = (g-query tree).give labelled [] spelled good in
+      (columns, with_parts-places (with_block (NodeBgp []) tree.group.block) tree.group.parts (with_block-places (NodeBgp []) tree.group.block tt group.0) group.1)

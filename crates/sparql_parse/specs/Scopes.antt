@@ -1,6 +1,0 @@
--- The names and namespaces of the code, as a scope.
-use Rattle.sparql_parse.specs.Meaning.{Scope}
-use Rattle.sparql_parse.specs.Naming.{Kept}
-
-abbrev pub scope_in : Kept → Scope
-scope_in kept = record { names = kept.names; namespaces = kept.declarations.namespaces }
