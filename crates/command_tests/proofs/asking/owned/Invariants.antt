@@ -1,6 +1,6 @@
 use Rattle.std.proofs.Common.{◌≡◌, map, take}
 use Rattle.std.specs.String.{string_bytes}
-use Rattle.commands.proofs.asking.owned.Given as goal
+use Rattle.command_tests.proofs.asking.owned.Given as goal
 
 -- the words before are owned
 abbrev pub invariant-loop-word : goal.invariant-loop-word
