@@ -1,18 +1,40 @@
-# `make example` builds the program and asks the example; `make gate` runs the gate; `make bench` times the program;
-# `make random` compares it with an evaluator of its own in Python, on random queries.
-.PHONY: example gate bench random build
+# `make example` builds the program, compares its answers to the examples with those stored, and asks the first again;
+# `make try` asks it in half a minute, with no proof; `make gate` runs the gate; `make runs` the stored runs alone;
+# `make bench` times the program and its parts; `make random` compares it with an evaluator of its own in Python, on
+# random queries; `make pages` writes the pages of docs/ that are made.
+.PHONY: example try gate runs bench random pages build
+
+INSTRUMENTS = hierarchy labels overview
+BENCHES = bench_rows bench_lanes bench_terms bench_reading
 
 example: build
+	./bitmat ask examples/people.nt examples/friends.rq tsv | diff examples/friends.tsv -
+	cd examples/instruments && for query in $(INSTRUMENTS); do \
+	    ../../bitmat ask instruments.nt $$query.rq tsv | diff $$query.tsv - || exit 1; done
 	./bitmat ask examples/people.nt examples/friends.rq tsv
+
+try:
+	cd crates/bitmat && rt try --data people.nt=../../examples/people.nt --data friends.rq=../../examples/friends.rq \
+	    -- ask people.nt friends.rq tsv
+	@echo "This proves nothing: it runs the program as it is written. \`make example\` proves it first."
 
 gate:
 	./.ci/run
 
+runs: build
+	tools/stored_runs.py ./bitmat
+
 bench: build
+	for bench in $(BENCHES); do (cd crates/$$bench && rt run) || exit 1; done
+	bench/read.py crates/bench_reading/out/bench_reading
 	bench/ask.py ./bitmat
 
 random: build
 	bench/random_queries.py ./bitmat 2000
+
+pages:
+	tools/headline.py
+	tools/crates_picture.py
 
 # Only a proved program is built: `rt run` proves it, builds it and runs it once, on the two files of its folder.
 build:

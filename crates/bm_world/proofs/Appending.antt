@@ -11,10 +11,11 @@ use Rattle.bm_world.proofs.Steps.{Step-then, Step-weaken}
 abbrev pub IsAppending : (Meanings → List ℕ → Meanings) → Type 0
 IsAppending change = (m : Meanings) (a b : List ℕ) → change (change m a) b ≡ change m (a ++ b)
 
--- what is written to standard output, and to standard error, is put after the rest
+-- what is written to standard output is put after the rest
 pub printed_appends : IsAppending with_printed
 printed_appends m a b = ap (λ (text : List ℕ). record m { printed = text }) (append_assoc m.printed a b)
 
+-- so is what is written to standard error
 pub complained_appends : IsAppending with_complained
 complained_appends m a b = ap (λ (text : List ℕ). record m { complained = text }) (append_assoc m.complained a b)
 

@@ -17,9 +17,11 @@ use Rattle.std.proofs.lemmas.Map.Text.{is_eq-slice_cmp, btree_map_updates_text}
 use Rattle.bm_world.specs.Meanings.{Files, append_to}
 use Rattle.bm_world.specs.FileTable.{files_of}
 
+-- the table of the code, from names to bytes
 abbrev pub Table : Type 0
 Table = BTreeMap (String Global) (Vec ℕ Global)
 
+-- the bytes of a file, if there is one
 abbrev pub bytes_of : Option (Vec ℕ Global) → Option (List ℕ)
 bytes_of file = option_map (λ (v : Vec ℕ Global). v.items) file
 
@@ -49,17 +51,18 @@ files_of-updates name old new v updates = same_map nat_list_cmp_total (slice_cmp
     ∙ ap (cond (eq_by_cmp (slice_cmp nat_cmp) q name) (Some v.items)) (sym (get-files_of old q))
     ∙ sym (get-insert nat_list_cmp_total _ name v.items q))
 
--- the map with a value at one key stands for the files with that file
+-- the map with a value at one key is the files with that file
 pub files_put : (files : Files) (name bytes : List ℕ) (old new : Table) (key : List ℕ) (v : Vec ℕ Global) → files_of old.entries ≡ files → UpdatesBy string_cmp (λ k. slice_cmp nat_cmp key (string_bytes k)) old new (Some v) → key ≡ name → v.items ≡ bytes → files_of new.entries ≡ insert files name bytes
 files_put files name bytes old new key v is updates same_name same_bytes = files_of-updates key old new v updates
     ∙ ap (λ files. insert files key v.items) is
     ∙ ap (λ name. insert files name v.items) same_name
     ∙ ap (insert files name) same_bytes
 
--- appending at a name that is not there, and at one that is
+-- nothing is appended at a name that is not there
 append_to_none : (files : Files) (name bytes : List ℕ) → get files name ≡ None → append_to files name bytes ≡ files
 append_to_none files name bytes none = ap (λ file. option_map_or (λ (old : List ℕ). insert files name (old ++ bytes)) file files) none
 
+-- bytes are appended at a name that is there
 append_to_some : (files : Files) (name bytes old : List ℕ) → get files name ≡ Some old → append_to files name bytes ≡ insert files name (old ++ bytes)
 append_to_some files name bytes old some = ap (λ file. option_map_or (λ (old : List ℕ). insert files name (old ++ bytes)) file files) some
 

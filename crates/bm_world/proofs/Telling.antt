@@ -29,12 +29,15 @@ drop_none (Some xs) = refl
 
 -- a read that moved the first bytes of what was left into the front of a buffer
 module _ (old new : List ℕ) (count : ℕ) (left : List ℕ) (counts : count ≡ min (length old) (length left)) (came : new ≡ take count left ++ drop count old) where
+  -- the buffer keeps its length
   same_length : length new ≡ length old
   same_length = ap length came ∙ length-append (take count left) (drop count old) ∙ omega (arith, length-take count left, length-drop count old)
 
+  -- its front is what came
   front : take count new ≡ take count left
   front = ap (take count) came ∙ take_at (take count left) (drop count old) count (omega (arith, length-take count left))
 
+  -- so some bytes were taken
   takes : (m n : Meanings) → m.rest ≡ Some left → n ≡ record m { rest = Some (drop count left) } → Takes new count m n
   takes m n is moved = record {
     left = drop count left;

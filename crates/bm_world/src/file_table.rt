@@ -1,4 +1,4 @@
-// Files in memory, seen as the map from the bytes of their names to their bytes.
+//! Files in memory, seen as the map from the bytes of their names to their bytes.
 ghost use Rattle.std.specs.Prelude.{◌≡◌, ◌++◌, OnOk, OnErr};
 ghost use Rattle.std.specs.Option.{option_copied};
 ghost use Rattle.std.specs.FinMap as map;

@@ -1,4 +1,4 @@
-// A world in memory.
+//! A world in memory.
 ghost use Rattle.std.specs.Prelude.{◌≡◌, ◌++◌, [], ◌∷◌, None, Some, IfOk, OnOk, OnErr, IsSome, IsOk, string_bytes, min, length, map, take, drop, is_some, is_none, is_ok, false, if◌then◌else◌};
 ghost use Rattle.std.specs.Option.{option_copied, option_map};
 ghost use Rattle.std.specs.Result.{result_unwrap_or};
@@ -130,7 +130,8 @@ impl MemWorld {
     /// The three counts: of `open` and `read`, of `create`, `write`, `close` and `print`, and of
     /// `complain`.
     pub fn faults(&self) -> (u64, u64, u64)
-        ensures { let faults = self.now.faults in result ≡ (faults.reads, faults.writes, faults.says) }
+        ensures { let faults = self.now.faults in
+            result ≡ (faults.reads, faults.writes, faults.says) }
     {
         (self.faults.reads, self.faults.writes, self.faults.says)
     }
@@ -143,7 +144,8 @@ impl World for MemWorld {
 
     fn open(&mut self, name: &str) -> Result<(), Failed>
         ensures ends { Ends (is_due WorldCall.Open self.old.schedule)
-            (is_none (file_at self.old.meanings name.now)) result self.old.faults.reads self.new.faults.reads }
+            (is_none (file_at self.old.meanings name.now)) result
+            self.old.faults.reads self.new.faults.reads }
         ensures exact { self.new ≡ record self.old {
           meanings = if is_ok result
               then with_opened self.old.meanings name.now (file_at self.old.meanings name.now)
@@ -310,16 +312,17 @@ fn raise(count: &mut u64) -> Failed
     Failed
 }
 
-// Puts a copy of the name after the others.
+/// Puts a copy of the name after the others.
 fn push_name(alloc: Global, names: &mut Vec<String>, name: &str) -> Result<(), AllocError>
-    ensures ok { OnOk result (map string_bytes names.new.items ≡ map string_bytes names.old.items ++ name.now ∷ []) }
+    ensures ok { OnOk result (map string_bytes names.new.items
+        ≡ map string_bytes names.old.items ++ name.now ∷ []) }
     ensures err { OnErr result (names.new.items ≡ names.old.items) }
 {
     names.push(String::from_str(alloc, name)?)?;
     Ok(())
 }
 
-// Makes the named file empty, and gives a copy of its name.
+/// Makes the named file empty, and gives a copy of its name.
 fn begin(alloc: Global, files: &mut FileTable, name: &str) -> Result<String, AllocError>
     ensures name { IfOk result (λ made. string_bytes made ≡ name.now) }
     ensures ok { OnOk result (files.new ≡ fin_map.insert files.old name.now []) }

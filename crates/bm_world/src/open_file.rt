@@ -1,4 +1,4 @@
-// A file that is open for reading, seen as the bytes that are left to read.
+//! A file that is open for reading, seen as the bytes that are left to read.
 ghost use Rattle.std.specs.Prelude.{◌≡◌, ◌++◌, min, length, take, drop};
 
 use std::marker::Model;

@@ -1,4 +1,4 @@
-// Reads a whole file, up to a limit.
+//! Reads a whole file, up to a limit.
 ghost use Rattle.std.specs.Prelude.{◌≡◌, ◌⊎◌, ◌≤◌, IfOk, IsErrOf, IsSomeAnd, vec_len};
 ghost use Rattle.bm_world.specs.declared.reading.ReadEnd.TheVariants.{Fault, Memory};
 ghost use Rattle.bm_world.specs.World.{Step, Rose, IsMissing};
@@ -34,7 +34,7 @@ impl From<AllocError> for ReadEnd {
     }
 }
 
-// How many bytes come at once, at most.
+/// How many bytes come at once, at most.
 const BUFFER: usize = 65_536;
 
 /// Opens the named file, once, and reads it to its end, if it has at most `limit` bytes. A longer
@@ -48,7 +48,8 @@ pub fn read_all<W: World>(
 ) -> Result<Vec<u8>, ReadEnd>
     ensures step { Step (W.told world.old) (W.told world.new) (ReadsAll name.now limit result) }
     ensures within { IfOk result (λ bytes. vec_len bytes ≤ limit) }
-    ensures fault { IsErrOf result ReadEnd.Fault → Rose (W.faults world.old).reads (W.faults world.new).reads
+    ensures fault { IsErrOf result ReadEnd.Fault →
+        Rose (W.faults world.old).reads (W.faults world.new).reads
         ⊎ IsSomeAnd (W.told world.old) (IsMissing name.now) }
     ensures later { (W.faults world.old).reads ≤ (W.faults world.new).reads }
     ensures writes_stay { (W.faults world.new).writes ≡ (W.faults world.old).writes }

@@ -1,4 +1,4 @@
-// Writes whole texts to standard output and to standard error, by as many calls as the world takes.
+//! Writes whole texts to standard output and to standard error, by as many calls as the world takes.
 ghost use Rattle.std.specs.Prelude.{◌≡◌};
 ghost use Rattle.bm_world.specs.Meanings.{with_printed, with_complained};
 ghost use Rattle.bm_world.specs.World.{Step, RisesOnErr, AppendsAll};

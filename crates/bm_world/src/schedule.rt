@@ -1,4 +1,4 @@
-// The calls of a world in memory that are to fail.
+//! The calls of a world in memory that are to fail.
 ghost use Rattle.std.specs.Prelude.{◌≡◌, [], ◌∷◌, ◌++◌, OnOk, OnErr};
 ghost use Rattle.bm_world.specs.Schedule.{is_due, count_call, after_call};
 

@@ -1,3 +1,4 @@
+//! Whole files and texts, and the calls of a world in memory.
 use super::*;
 use std::alloc::{AllocError, Global};
 use std::test::Fail;
@@ -48,6 +49,10 @@ fn a_long_file_is_read_in_pieces(rt: HostRuntime) -> Result<(), Fail> {
     let bytes = read_all(alloc, &mut world, "long", 200_000)?;
     assert!(rt; bytes.as_slice() == long.as_slice());
     assert!(rt; read_all(alloc, &mut world, "long", 199_999).is_err());
+    // No more is read than one buffer past the limit.
+    assert!(rt; read_all(alloc, &mut world, "long", 1).is_err());
+    let mut room = vec![in alloc; 0u8; 200_000]?;
+    assert!(rt; world.read(room.as_mut_slice())? == 134_464);
     // A read in the middle fails.
     world.fail_at(WorldCall::Read, 3)?;
     assert!(rt; read_all(alloc, &mut world, "long", 200_000).is_err());
@@ -111,7 +116,7 @@ fn a_file_is_read_as_it_was(rt: HostRuntime) -> Result<(), Fail> {
     Ok(())
 }
 
-// One call of this kind, in a case that is no failure.
+/// One call of this kind, in a case that is no failure.
 fn one_call(world: &mut MemWorld, call: WorldCall) -> Result<(), Failed> {
     match call {
         WorldCall::Open => world.open("f"),
@@ -130,7 +135,7 @@ fn one_call(world: &mut MemWorld, call: WorldCall) -> Result<(), Failed> {
     }
 }
 
-// A world with a file that is open, where a call of this kind may be made.
+/// A world with a file that is open, where a call of this kind may be made.
 fn ready(alloc: Global, call: WorldCall) -> Result<MemWorld, Fail> {
     let mut world = MemWorld::new(alloc);
     world.put_file("f", b"abc")?;

@@ -1,4 +1,4 @@
-// The outside as a trait: what its calls move, and what shows that one failed.
+//! The outside as a trait: what its calls move, and what shows that one failed.
 ghost use Rattle.std.specs.Prelude.{◌≡◌, ◌<◌, ◌≤◌, Option, length, IfOk};
 ghost use Rattle.bm_world.specs.declared.world.Faults.{Faults};
 ghost use Rattle.bm_world.specs.Meanings.{Meanings, with_printed, with_complained};

@@ -1,0 +1,19 @@
+//! Tests of whole commands over a world in memory: words and files, each call of a run failing in turn, queries and data
+//! with the text that answers them, and refusals with their lines.
+#![tactic(auto)]
+
+mod asking;
+#[cfg(test)]
+mod checking;
+#[cfg(test)]
+mod data;
+#[cfg(test)]
+mod failures;
+#[cfg(test)]
+mod queries;
+#[cfg(test)]
+mod refusals;
+#[cfg(test)]
+mod words;
+
+pub use asking::{ANSWER, DATA, QUERY, ask, world_of};

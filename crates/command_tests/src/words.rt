@@ -1,0 +1,41 @@
+//! The words of a command, and the files that it names.
+use crate::asking::{QUERY, ask, world_of};
+use std::test::Fail;
+
+const USAGE: &str =
+    "usage: bitmat ask DATA QUERY tsv|json | load DATA INDEX | query INDEX QUERY tsv|json | check INDEX | explain INDEX QUERY | trial N\n";
+
+/// Words, the status and the line, where there is a file `d` and a file `q`.
+const WORDS: [(&[&str], u8, &str); 7] = [
+    (&[], 1, USAGE),
+    (&["ask", "d", "q"], 1, USAGE),
+    (&["ask", "d", "q", "json"], 1, USAGE),
+    (&["ask", "d", "q", "tsv", "x"], 1, USAGE),
+    (&["--help"], 1, USAGE),
+    (&["ask", "e", "q", "tsv"], 5, "read fault: e\n"),
+    (&["ask", "d", "r", "tsv"], 5, "read fault: r\n"),
+];
+
+#[test]
+fn words_and_files_are_looked_at_first(rt: HostRuntime) -> Result<(), Fail> {
+    let alloc = rt.alloc();
+    for (words, wanted, line) in WORDS {
+        let mut world = world_of(alloc, "no data", QUERY)?;
+        let status = ask(alloc, words, &mut world)?;
+        assert!(rt; status == wanted, "{line}");
+        assert!(rt; world.printed().is_empty(), "{line}");
+        assert!(rt; world.complained() == line.as_bytes(), "{line}");
+    }
+    Ok(())
+}
+
+#[test]
+fn a_long_query_file_is_refused(rt: HostRuntime) -> Result<(), Fail> {
+    let alloc = rt.alloc();
+    let spaces = vec![in alloc; b' '; 1_048_577]?;
+    let mut world = world_of(alloc, "x", "")?;
+    world.put_file("q", &spaces)?;
+    assert!(rt; ask(alloc, &["ask", "d", "q", "tsv"], &mut world)? == 8);
+    assert!(rt; world.complained() == b"limit: q is longer than 1048576 bytes\n".as_slice());
+    Ok(())
+}

@@ -1,7 +1,0 @@
-use Rattle.std.proofs.Common.{◌≡◌, map, take}
-use Rattle.std.specs.String.{string_bytes}
-use Rattle.commands.proofs.asking.owned.Given as goal
-
--- the words before are owned
-abbrev pub invariant-loop-word : goal.invariant-loop-word
-invariant-loop-word l = map string_bytes l.owned.items ≡ map (λ word. word.now) (take l.word-index l.words)
