@@ -4,3 +4,4 @@ pub mod Offenders
 pub mod Sides
 pub mod Verdicts
 pub mod Refusing
+pub mod Examples

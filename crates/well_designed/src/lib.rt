@@ -5,6 +5,8 @@
 mod design;
 mod places;
 mod refusals;
+#[cfg(test)]
+mod tests;
 mod walk;
 
 pub use design::{NotWellDesigned, test};
