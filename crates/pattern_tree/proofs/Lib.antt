@@ -1,0 +1,4 @@
+pub mod Choices
+pub mod Distinct
+pub mod Evaluation
+pub mod Unions
