@@ -1,4 +1,6 @@
 pub mod Choices
 pub mod Distinct
 pub mod Evaluation
+pub mod Nodes
+pub mod RootedSets
 pub mod Unions

@@ -27,10 +27,10 @@ moved_option d (Some parent) = Some (moved_parent d parent)
 abbrev pub moved : ℕ → TreeNode → TreeNode
 moved d node = record { parent = moved_option d node.parent; patterns = node.patterns }
 
--- a node of a tree that hangs from the root, where its own root is node d
+-- a node of a tree that hangs from the root of another, after d nodes below that root
 abbrev pub hung_parent : ℕ → Option ℕ → ℕ
 hung_parent d None = 0
-hung_parent d (Some parent) = parent + d
+hung_parent d (Some parent) = suc (parent + d)
 
 abbrev pub hung : ℕ → TreeNode → TreeNode
 hung d node = record { parent = Some (hung_parent d node.parent); patterns = node.patterns }
@@ -41,7 +41,7 @@ abbrev pub nodes_below : Algebra → List TreeNode
 nodes_below (Bgp list) = []
 nodes_below (Join left right) = nodes_below left ++ map (moved (length (nodes_below left))) (nodes_below right)
 nodes_below (LeftJoin left right) =
-    nodes_below left ++ map (hung (suc (length (nodes_below left)))) (record { parent = None; patterns = root_patterns right } ∷ nodes_below right)
+    nodes_below left ++ map (hung (length (nodes_below left))) (record { parent = None; patterns = root_patterns right } ∷ nodes_below right)
 
 -- the tree
 abbrev pub tree_of : Algebra → List TreeNode
