@@ -75,7 +75,7 @@ module _ {V X : Type 0} (interpretation : Interpretation V X) (tells : TellsValu
       ap is_some (option-Contains (match_of interpretation n pattern triple) own there)
 
   -- so a solution over the triples is one over the matches
-  basic-to : (patterns : List TriplePat) (row : Row V) → HasVarsBelow n (Bgp patterns) → IsSolution interpretation n patterns triples row → IsSolutionOf interpretation n matches patterns row
+  pub basic-to : (patterns : List TriplePat) (row : Row V) → HasVarsBelow n (Bgp patterns) → IsSolution interpretation n patterns triples row → IsSolutionOf interpretation n matches patterns row
   basic-to patterns row below is = record {
     width = is.width;
     binds = is.binds;
@@ -89,7 +89,7 @@ module _ {V X : Type 0} (interpretation : Interpretation V X) (tells : TellsValu
         (found.0, a.1, found.1, found.2, a.4);
   }
 
-  basic-from : (patterns : List TriplePat) (row : Row V) → IsSolutionOf interpretation n matches patterns row → IsSolution interpretation n patterns triples row
+  pub basic-from : (patterns : List TriplePat) (row : Row V) → IsSolutionOf interpretation n matches patterns row → IsSolution interpretation n patterns triples row
   basic-from patterns row is = record {
     width = is.width;
     binds = is.binds;
@@ -281,13 +281,12 @@ module _ {V X : Type 0} (interpretation : Interpretation V X) (tells : TellsValu
       let is_e = row_is_partial left below_left e over_r.there in
       let is_f = row_is_partial right below_right f over_s.there in
       let agree = agree_extended left right share both.r both.s q e f both.is_r both.is_s both.union is_e is_f over_r.over over_s.over in
-      let whole = merge_of_agreeing e f is_e.solves.width is_f.solves.width agree in
-      (
+      let whole = merge_of_agreeing e f is_e.solves.width is_f.solves.width agree in (
         whole.row,
         Contains-join test (rows left) (rows right) e f whole.row over_r.there over_s.there whole.is,
         Extends-union both.r both.s q whole.row both.union
-        (Extends-trans whole.row e both.r whole.union.left over_r.over)
-        (Extends-trans whole.row f both.s whole.union.right over_s.over),
+            (Extends-trans whole.row e both.r whole.union.left over_r.over)
+            (Extends-trans whole.row f both.s whole.union.right over_s.over),
       )
 
   -- each partial solution is extended by a row

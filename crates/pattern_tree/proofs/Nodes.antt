@@ -80,11 +80,11 @@ below-HasParent (LeftJoin left right) k node is =
           let from = from_map (hung d) (tree_of right) back.0 node back.2 in
           subst (λ k. HasParent node k) (sym back.1) (subst (λ node. HasParent node (back.0 + d)) from.2 (hung_there d right back.0 from.0 from.1 (λ j below. below-HasParent right j from.0 below)))
     ] where
-  hung_there : (d : ℕ) (right : Algebra) (j : ℕ) (node : TreeNode) → slice_get (tree_of right) j ≡ Some node → ((i : ℕ) → slice_get (nodes_below right) i ≡ Some node → HasParent node i) → HasParent (hung d node) (j + d)
-  hung_there d right zero node is below =
-      let root : record { parent = None; patterns = root_patterns right } ≡ node = cc in
-      subst (λ node. HasParent (hung d node) (0 + d)) root (record { parent = 0; is = refl; low = omega arith })
-  hung_there d right (suc j) node is below = hung-HasParent d j node (below j is)
+      hung_there : (d : ℕ) (right : Algebra) (j : ℕ) (node : TreeNode) → slice_get (tree_of right) j ≡ Some node → ((i : ℕ) → slice_get (nodes_below right) i ≡ Some node → HasParent node i) → HasParent (hung d node) (j + d)
+      hung_there d right zero node is below =
+          let root : record { parent = None; patterns = root_patterns right } ≡ node = cc in
+          subst (λ node. HasParent (hung d node) (0 + d)) root (record { parent = 0; is = refl; low = omega arith })
+      hung_there d right (suc j) node is below = hung-HasParent d j node (below j is)
 
 -- ---- the triple patterns of a set
 

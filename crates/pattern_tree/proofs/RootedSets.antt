@@ -117,13 +117,14 @@ out_of left right set rooted out (suc bound) (suc k) low within =
     false_from_not (hung_set d set (suc k)) (λ at.
     let up = rooted.parents (suc (suc k + d)) (suc (has.parent + d)) (hung d node.0) there hung_has at in
     cc) where
-  node_at : (nodes : List TreeNode) (k : ℕ) → k < length nodes → (node : TreeNode) × (slice_get nodes k ≡ Some node)
-  node_at [] k low = absurd (omega arith)
-  node_at (node ∷ nodes) zero low = (node, refl)
-  node_at (node ∷ nodes) (suc k) low = node_at nodes k (omega arith)
-  false_from_not : (b : Bool) → (b ≡ true → ⊥) → b ≡ false
-  false_from_not true h = absurd (h refl)
-  false_from_not false h = refl
+      node_at : (nodes : List TreeNode) (k : ℕ) → k < length nodes → (node : TreeNode) × (slice_get nodes k ≡ Some node)
+      node_at [] k low = absurd (omega arith)
+      node_at (node ∷ nodes) zero low = (node, refl)
+      node_at (node ∷ nodes) (suc k) low = node_at nodes k (omega arith)
+
+      false_from_not : (b : Bool) → (b ≡ true → ⊥) → b ≡ false
+      false_from_not true h = absurd (h refl)
+      false_from_not false h = refl
 
 -- the triple patterns of a rooted set
 rooted_patterns : (pattern : Algebra) (set : ℕ → Bool) → IsTrue (set 0) → patterns_of (tree_of pattern) set ≡ root_patterns pattern ++ patterns_of (nodes_below pattern) (λ k. set (suc k))
@@ -189,3 +190,161 @@ choice_from_set (LeftJoin left right) set rooted =
           let short : patterns_of (tree_of (LeftJoin left right)) set ≡ root_patterns left ++ pl = whole ∙ ap (λ list. root_patterns left ++ (pl ++ list)) empty ∙ ap (λ list. root_patterns left ++ list) (append-nil pl) in
           record { list = a.list; choice = inl a.choice; same = subst (HasSame a.list) (sym short) same_a }
     ] refl
+
+-- ---- from choices to sets
+
+pub record HasSet (pattern : Algebra) (list : List TriplePat) : Type 0 where
+  pub set : ℕ → Bool
+  pub rooted : IsRooted (tree_of pattern) set
+  pub same : HasSame list (patterns_of (tree_of pattern) set)
+
+-- a node of the left side, where its set is mixed with another
+mixed_left : (left : Algebra) (sl t : ℕ → Bool) → IsRooted (tree_of left) sl → (k parent : ℕ) (node : TreeNode) → k < length (nodes_below left) → slice_get (nodes_below left) k ≡ Some node → node.parent ≡ Some parent →
+    IsTrue (mixed (length (nodes_below left)) sl t (suc k)) → IsTrue (mixed (length (nodes_below left)) sl t parent)
+mixed_left left sl t rooted k parent node low is has at =
+    let d = length (nodes_below left) in
+    let h = below-HasParent left k node is in
+    let one : h.parent ≡ parent = (let first = h.is in cc) in
+    let before : parent ≤ d = (let le = h.low in omega arith) in
+    let mine = rooted.parents (suc k) parent node is has (sym (mixed-front d sl t (suc k) (omega arith)) ∙ at) in
+    mixed-front d sl t parent before ∙ mine
+
+-- the triple patterns of the left side in the mixed set
+mixed_patterns : (left : Algebra) (sl t : ℕ → Bool) → patterns_of (nodes_below left) (λ k. mixed (length (nodes_below left)) sl t (suc k)) ≡ patterns_of (nodes_below left) (λ k. sl (suc k))
+mixed_patterns left sl t = patterns_of-same (nodes_below left) (λ k. mixed (length (nodes_below left)) sl t (suc k)) (λ k. sl (suc k)) (λ k low. mixed-front (length (nodes_below left)) sl t (suc k) (omega arith))
+
+-- and those after it
+mixed_others : (d : ℕ) (nodes : List TreeNode) (sl t : ℕ → Bool) → patterns_of nodes (λ k. mixed d sl t (suc (k + d))) ≡ patterns_of nodes t
+mixed_others d nodes sl t = patterns_of-same nodes (λ k. mixed d sl t (suc (k + d))) t (λ k _. mixed-back d sl t k)
+
+-- a set that is rooted in both sides of a Join
+joined_rooted : (left right : Algebra) (sl sr : ℕ → Bool) → IsRooted (tree_of left) sl → IsRooted (tree_of right) sr → IsRooted (tree_of (Join left right)) (mixed (length (nodes_below left)) sl (λ j. sr (suc j)))
+joined_rooted left right sl sr rooted_l rooted_r =
+    let d = length (nodes_below left) in
+    let t : ℕ → Bool = λ j. sr (suc j) in
+    let root : IsTrue (mixed d sl t 0) = mixed-front d sl t 0 (omega arith) ∙ rooted_l.root in
+    rooted_from_below (Join left right) (mixed d sl t) root (λ k parent node is has at.
+    elim (at_either (nodes_below left) (map (moved d) (nodes_below right)) k node is) as (λ _. IsTrue (mixed d sl t parent)) [
+      | inl front ↦ mixed_left left sl t rooted_l k parent node front.0 front.1 has at
+      | inr back ↦
+          let from = from_map (moved d) (nodes_below right) back.0 node back.2 in
+          let h = below-HasParent right back.0 from.0 from.1 in
+          let there : IsTrue (sr (suc back.0)) = sym (mixed-back d sl t back.0) ∙ ap (λ k. mixed d sl t (suc k)) (sym back.1) ∙ at in
+          let up = rooted_r.parents (suc back.0) h.parent from.0 from.1 h.is there in
+          let same : Some (moved_parent d h.parent) ≡ Some parent = sym (ap (moved_option d) h.is) ∙ ap (λ node. node.parent) from.2 ∙ has in
+          let one : moved_parent d h.parent ≡ parent = cc in
+          subst (λ parent. IsTrue (mixed d sl t parent)) one (moved_up d h.parent root up)
+    ]) where
+      moved_up : (d q : ℕ) → IsTrue (mixed d sl (λ j. sr (suc j)) 0) → IsTrue (sr q) → IsTrue (mixed d sl (λ j. sr (suc j)) (moved_parent d q))
+      moved_up d zero root up = root
+      moved_up d (suc q) root up = mixed-back d sl (λ j. sr (suc j)) q ∙ up
+
+-- a set that is rooted in the left side of a LeftJoin, and has no node of the right side
+alone_rooted : (left right : Algebra) (sl : ℕ → Bool) → IsRooted (tree_of left) sl → IsRooted (tree_of (LeftJoin left right)) (mixed (length (nodes_below left)) sl (λ j. false))
+alone_rooted left right sl rooted_l =
+    let d = length (nodes_below left) in
+    let t : ℕ → Bool = λ j. false in
+    rooted_from_below (LeftJoin left right) (mixed d sl t) (mixed-front d sl t 0 (omega arith) ∙ rooted_l.root) (λ k parent node is has at.
+    elim (at_either (nodes_below left) (map (hung d) (tree_of right)) k node is) as (λ _. IsTrue (mixed d sl t parent)) [
+      | inl front ↦ mixed_left left sl t rooted_l k parent node front.0 front.1 has at
+      | inr back ↦
+          let wrong : false ≡ true = sym (mixed-back d sl t back.0) ∙ ap (λ k. mixed d sl t (suc k)) (sym back.1) ∙ at in
+          absurd (cc)
+    ])
+
+-- a set that is rooted in both sides of a LeftJoin
+hung_rooted : (left right : Algebra) (sl sr : ℕ → Bool) → IsRooted (tree_of left) sl → IsRooted (tree_of right) sr → IsRooted (tree_of (LeftJoin left right)) (mixed (length (nodes_below left)) sl sr)
+hung_rooted left right sl sr rooted_l rooted_r =
+    let d = length (nodes_below left) in
+    let root : IsTrue (mixed d sl sr 0) = mixed-front d sl sr 0 (omega arith) ∙ rooted_l.root in
+    rooted_from_below (LeftJoin left right) (mixed d sl sr) root (λ k parent node is has at.
+    elim (at_either (nodes_below left) (map (hung d) (tree_of right)) k node is) as (λ _. IsTrue (mixed d sl sr parent)) [
+      | inl front ↦ mixed_left left sl sr rooted_l k parent node front.0 front.1 has at
+      | inr back ↦
+          let from = from_map (hung d) (tree_of right) back.0 node back.2 in
+          let there : IsTrue (sr back.0) = sym (mixed-back d sl sr back.0) ∙ ap (λ k. mixed d sl sr (suc k)) (sym back.1) ∙ at in
+          let same : Some (hung_parent d from.0.parent) ≡ Some parent = ap (λ node. node.parent) from.2 ∙ has in
+          let one : hung_parent d from.0.parent ≡ parent = cc in
+          subst (λ parent. IsTrue (mixed d sl sr parent)) one (hung_up d from.0.parent root (λ q is_q. rooted_r.parents back.0 q from.0 from.1 is_q there))
+    ]) where
+      hung_up : (d : ℕ) (parent : Option ℕ) → IsTrue (mixed d sl sr 0) → ((q : ℕ) → parent ≡ Some q → IsTrue (sr q)) → IsTrue (mixed d sl sr (hung_parent d parent))
+      hung_up d None root up = root
+      hung_up d (Some q) root up = mixed-back d sl sr q ∙ up q refl
+
+-- each choice is that of a rooted set
+pub set_from_choice : (pattern : Algebra) (list : List TriplePat) → IsChoice pattern list → HasSet pattern list
+set_from_choice (Bgp patterns) list is = record {
+  set = λ k. true;
+  rooted = rooted_from_below (Bgp patterns) (λ k. true) refl (λ k parent node is has at. refl);
+  same = subst (HasSame list) (is ∙ sym (append-nil patterns)) (HasSame-refl list);
+}
+set_from_choice (Join left right) list is =
+    let d = length (nodes_below left) in
+    let others = map (moved d) (nodes_below right) in
+    let a = set_from_choice left is.first is.is_first in
+    let b = set_from_choice right is.second is.is_second in
+    let t : ℕ → Bool = λ j. b.set (suc j) in
+    let set = mixed d a.set t in
+    let rooted = joined_rooted left right a.set b.set a.rooted b.rooted in
+    let pl = patterns_of (nodes_below left) (λ k. a.set (suc k)) in
+    let pr = patterns_of (nodes_below right) t in
+    let below : patterns_of (nodes_below left ++ others) (λ k. set (suc k)) ≡ pl ++ pr =
+    patterns_of-append (nodes_below left) others (λ k. set (suc k))
+    ∙ ap (λ front. front ++ patterns_of others (λ k. set (suc (k + d)))) (mixed_patterns left a.set t)
+    ∙ ap (λ back. pl ++ back) (patterns_of-moved d (nodes_below right) (λ k. set (suc (k + d))) ∙ mixed_others d (nodes_below right) a.set t) in
+    let whole = rooted_patterns (Join left right) set rooted.root ∙ ap (λ list. (root_patterns left ++ root_patterns right) ++ list) below in
+    let same_a = subst (HasSame is.first) (rooted_patterns left a.set a.rooted.root) a.same in
+    let same_b = subst (HasSame is.second) (rooted_patterns right b.set b.rooted.root) b.same in
+    record {
+      set = set;
+      rooted = rooted;
+      same = subst (λ list. HasSame list (patterns_of (tree_of (Join left right)) set)) (sym is.both)
+          (subst (HasSame (is.first ++ is.second)) (sym whole)
+          (HasSame-trans (is.first ++ is.second) ((root_patterns left ++ pl) ++ (root_patterns right ++ pr)) ((root_patterns left ++ root_patterns right) ++ (pl ++ pr))
+          (HasSame-append is.first is.second (root_patterns left ++ pl) (root_patterns right ++ pr) same_a same_b)
+          (HasSame-exchanged (root_patterns left) pl (root_patterns right) pr)));
+    }
+set_from_choice (LeftJoin left right) list (inl is) =
+    let d = length (nodes_below left) in
+    let others = map (hung d) (tree_of right) in
+    let a = set_from_choice left list is in
+    let t : ℕ → Bool = λ j. false in
+    let set = mixed d a.set t in
+    let rooted = alone_rooted left right a.set a.rooted in
+    let pl = patterns_of (nodes_below left) (λ k. a.set (suc k)) in
+    let empty : patterns_of (tree_of right) t ≡ [] = patterns_of-none (tree_of right) t (λ k low. refl) in
+    let below : patterns_of (nodes_below left ++ others) (λ k. set (suc k)) ≡ pl =
+    patterns_of-append (nodes_below left) others (λ k. set (suc k))
+    ∙ ap (λ front. front ++ patterns_of others (λ k. set (suc (k + d)))) (mixed_patterns left a.set t)
+    ∙ ap (λ back. pl ++ back) (patterns_of-hung d (tree_of right) (λ k. set (suc (k + d))) ∙ mixed_others d (tree_of right) a.set t ∙ empty)
+    ∙ append-nil pl in
+    let whole = rooted_patterns (LeftJoin left right) set rooted.root ∙ ap (λ list. root_patterns left ++ list) below in
+    record {
+      set = set;
+      rooted = rooted;
+      same = subst (HasSame list) (sym whole) (subst (HasSame list) (rooted_patterns left a.set a.rooted.root) a.same);
+    }
+set_from_choice (LeftJoin left right) list (inr is) =
+    let d = length (nodes_below left) in
+    let others = map (hung d) (tree_of right) in
+    let a = set_from_choice left is.first is.is_first in
+    let b = set_from_choice right is.second is.is_second in
+    let set = mixed d a.set b.set in
+    let rooted = hung_rooted left right a.set b.set a.rooted b.rooted in
+    let pl = patterns_of (nodes_below left) (λ k. a.set (suc k)) in
+    let pr = patterns_of (tree_of right) b.set in
+    let below : patterns_of (nodes_below left ++ others) (λ k. set (suc k)) ≡ pl ++ pr =
+    patterns_of-append (nodes_below left) others (λ k. set (suc k))
+    ∙ ap (λ front. front ++ patterns_of others (λ k. set (suc (k + d)))) (mixed_patterns left a.set b.set)
+    ∙ ap (λ back. pl ++ back) (patterns_of-hung d (tree_of right) (λ k. set (suc (k + d))) ∙ mixed_others d (tree_of right) a.set b.set) in
+    let whole = rooted_patterns (LeftJoin left right) set rooted.root ∙ ap (λ list. root_patterns left ++ list) below in
+    let same_a = subst (HasSame is.first) (rooted_patterns left a.set a.rooted.root) a.same in
+    record {
+      set = set;
+      rooted = rooted;
+      same = subst (λ list. HasSame list (patterns_of (tree_of (LeftJoin left right)) set)) (sym is.both)
+          (subst (HasSame (is.first ++ is.second)) (sym whole)
+          (HasSame-trans (is.first ++ is.second) ((root_patterns left ++ pl) ++ pr) (root_patterns left ++ (pl ++ pr))
+          (HasSame-append is.first is.second (root_patterns left ++ pl) pr same_a b.same)
+          (HasSame-grouped (root_patterns left) pl pr)));
+    }

@@ -3,4 +3,4 @@
 
 mod laws;
 
-pub use laws::shared_variable_law;
+pub use laws::{maximal_solution_law, partial_solution_law, pattern_tree_law, shared_variable_law};
