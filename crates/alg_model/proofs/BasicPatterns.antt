@@ -22,7 +22,7 @@ use Rattle.alg_model.proofs.Cells.{IsSome-from_value, binding-unbound, binding-s
 use Rattle.alg_model.proofs.Joins.{unbound_elsewhere, IsRowOf, AreRowsOf, LooksAt, LooksAt-both, rows-join, once-join}
 
 -- each of these variables has a number below n
-abbrev AreBelow : ℕ → List ℕ → Type 0
+abbrev pub AreBelow : ℕ → List ℕ → Type 0
 AreBelow n vars = (var : ℕ) → Contains vars var → var < n
 
 -- the same rows, of which the same is said in other words
@@ -114,7 +114,7 @@ module _ {V X : Type 0} (interpretation : Interpretation V X) (tells : TellsValu
   -- ---- a triple pattern and a triple
 
   -- what a triple pattern becomes depends on its variables alone
-  looks_makes : (pattern : TriplePat) (triple : X) → LooksAt (triple_vars pattern) (λ row. Makes interpretation row pattern triple)
+  pub looks_makes : (pattern : TriplePat) (triple : X) → LooksAt (triple_vars pattern) (λ row. Makes interpretation row pattern triple)
   looks_makes pattern triple =
       let s = place_vars pattern.subject in
       let p = place_vars pattern.predicate in
@@ -129,7 +129,7 @@ module _ {V X : Type 0} (interpretation : Interpretation V X) (tells : TellsValu
       }
 
   -- the match of a triple is the row that binds just the variables of the pattern and makes it the triple
-  rows_of_match : (pattern : TriplePat) (triple : X) → AreBelow n (triple_vars pattern) → AreRowsOf n (triple_vars pattern) (λ row. Makes interpretation row pattern triple) (option_to_list (match_of interpretation n pattern triple))
+  pub rows_of_match : (pattern : TriplePat) (triple : X) → AreBelow n (triple_vars pattern) → AreRowsOf n (triple_vars pattern) (λ row. Makes interpretation row pattern triple) (option_to_list (match_of interpretation n pattern triple))
   rows_of_match pattern triple below =
       let test = interpretation.same in
       let s = place_vars pattern.subject in

@@ -64,7 +64,7 @@ module _ {V : Type 0} (test : V → V → Bool) where
   agree_at (c ∷ r) (d ∷ s) (suc k) long h = agree_at r s k (omega arith) (and_parts (cells_agree test c d) (are_compatible test r s) h).1
 
   -- rows that agree on each variable are compatible
-  compatible_from : (r s : Row V) → length r ≡ length s → ((k : ℕ) → cells_agree test (binding r k) (binding s k) ≡ true) → are_compatible test r s ≡ true
+  pub compatible_from : (r s : Row V) → length r ≡ length s → ((k : ℕ) → cells_agree test (binding r k) (binding s k) ≡ true) → are_compatible test r s ≡ true
   compatible_from [] [] long h = refl
   compatible_from [] (d ∷ s) long h = absurd (omega arith)
   compatible_from (c ∷ r) [] long h = absurd (omega arith)

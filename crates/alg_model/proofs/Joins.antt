@@ -40,7 +40,7 @@ determined n vars r s q hr hs br bs er es =
 -- ---- a row cut to some variables
 
 -- whether a variable is among these
-abbrev has : List ℕ → ℕ → Bool
+abbrev pub has : List ℕ → ℕ → Bool
 has vars k = list_any (eqb k) vars
 
 -- the test is true of a variable that is among these
@@ -55,7 +55,7 @@ Contains-from_has vars k h =
     (some.0, some.2, subst (λ x. get_or vars some.0 x ≡ x) (sym is) some.3)
 
 -- the row without what it binds other variables to
-abbrev cut : {V : Type 0} → ℕ → List ℕ → Row V → Row V
+abbrev pub cut : {V : Type 0} → ℕ → List ℕ → Row V → Row V
 cut n vars row = map (λ k. if has vars k then binding row k else None) (range_with_len 0 n)
 
 -- an unbound cell, whether it is taken or not
@@ -65,11 +65,11 @@ none_either_way false o is = refl
 
 module _ {V : Type 0} (n : ℕ) (vars : List ℕ) (row : Row V) (width : HasWidth n row) where
   -- a cut row has n cells
-  width-cut : HasWidth n (cut n vars row)
+  pub width-cut : HasWidth n (cut n vars row)
   width-cut = length-map-range_with_len (λ k. if has vars k then binding row k else None) 0 n
 
   -- what a cut row binds a variable to
-  binding-cut : (k : ℕ) → binding (cut n vars row) k ≡ (if has vars k then binding row k else None)
+  pub binding-cut : (k : ℕ) → binding (cut n vars row) k ≡ (if has vars k then binding row k else None)
   binding-cut k =
       elim (cases_lt k n) as (λ _. binding (cut n vars row) k ≡ (if has vars k then binding row k else None)) [
         | inl low ↦ get_or-map-range_with_len (λ k. if has vars k then binding row k else None) 0 n k k None low (omega arith)
@@ -77,11 +77,11 @@ module _ {V : Type 0} (n : ℕ) (vars : List ℕ) (row : Row V) (width : HasWidt
       ]
 
   -- it binds these variables as the row does
-  cut_inside : (k : ℕ) → Contains vars k → binding (cut n vars row) k ≡ binding row k
+  pub cut_inside : (k : ℕ) → Contains vars k → binding (cut n vars row) k ≡ binding row k
   cut_inside k at = binding-cut k ∙ cond-true (has vars k) (binding row k) None (has_from_Contains vars k at)
 
   -- and what it binds is one of these variables, bound as in the row
-  cut_value : (k : ℕ) (v : V) → binding (cut n vars row) k ≡ Some v → Contains vars k × (binding row k ≡ Some v)
+  pub cut_value : (k : ℕ) (v : V) → binding (cut n vars row) k ≡ Some v → Contains vars k × (binding row k ≡ Some v)
   cut_value k v is =
       elim (cases_Bool (has vars k)) as (λ _. Contains vars k × (binding row k ≡ Some v)) [
         | inl among ↦ let at = Contains-from_has vars k among in (at, sym (cut_inside k at) ∙ is)
@@ -89,7 +89,7 @@ module _ {V : Type 0} (n : ℕ) (vars : List ℕ) (row : Row V) (width : HasWidt
       ]
 
   -- it binds just these variables, where the row binds them all
-  cut_binds : ((k : ℕ) → Contains vars k → IsSome (binding row k)) → BindsJust (cut n vars row) vars
+  pub cut_binds : ((k : ℕ) → Contains vars k → IsSome (binding row k)) → BindsJust (cut n vars row) vars
   cut_binds bound k = (
     λ some. let v = value_from_IsSome (binding (cut n vars row) k) some in (cut_value k v.0 v.1).0,
     λ at. rw cut_inside (bound k at),
@@ -125,17 +125,17 @@ LooksAt-both vs ws P Q hp hq = record {
 
 module _ {V : Type 0} (test : V → V → Bool) where
   -- the merges of one row, as a `flat_map`
-  merged_as_flat_map : (r : Row V) (right : List (Row V)) → filter_map (merged test r) right ≡ flat_map (λ s. option_to_list (merged test r s)) right
+  pub merged_as_flat_map : (r : Row V) (right : List (Row V)) → filter_map (merged test r) right ≡ flat_map (λ s. option_to_list (merged test r s)) right
   merged_as_flat_map r = filter_map_as_flat_map (merged test r)
 
   -- a merge of one row, and the other that it came of
-  merges-Contains : (r : Row V) (right : List (Row V)) (q : Row V) → Contains (filter_map (merged test r) right) q → (s : Row V) × Contains right s × (merged test r s ≡ Some q)
+  pub merges-Contains : (r : Row V) (right : List (Row V)) (q : Row V) → Contains (filter_map (merged test r) right) q → (s : Row V) × Contains right s × (merged test r s ≡ Some q)
   merges-Contains r right q h =
       let from = source-flat_map (λ s. option_to_list (merged test r s)) right q (subst (λ rows. Contains rows q) (merged_as_flat_map r right) h) in
       (from.0, from.1, option-Contains (merged test r from.0) q from.2)
 
   -- the merges of one row have that with each compatible row
-  Contains-merges : (r : Row V) (right : List (Row V)) (s q : Row V) → Contains right s → merged test r s ≡ Some q → Contains (filter_map (merged test r) right) q
+  pub Contains-merges : (r : Row V) (right : List (Row V)) (s q : Row V) → Contains right s → merged test r s ≡ Some q → Contains (filter_map (merged test r) right) q
   Contains-merges r right s q at is =
       subst (λ rows. Contains rows q) (sym (merged_as_flat_map r right))
       (Contains-flat_map (λ s. option_to_list (merged test r s)) right s q at (Contains-option (merged test r s) q is))
@@ -152,31 +152,31 @@ module _ {V : Type 0} (test : V → V → Bool) where
   Contains-join left right r s q hr hs is =
       Contains-flat_map (λ r. filter_map (merged test r) right) left r q hr (Contains-merges r right s q hs is)
 
+-- a union binds just the variables of both rows
+pub union_binds : {V : Type 0} (vs ws : List ℕ) (r s q : Row V) → BindsJust r vs → BindsJust s ws → IsUnion r s q → BindsJust q (vs ++ ws)
+union_binds vs ws r s q hr hs u k = (
+  λ some. elim (cases_Option (binding r k)) as (λ _. Contains (vs ++ ws) k) [
+    | inl first ↦ Contains-append_left vs ws k ((hr k).0 (IsSome-from_value (binding r k) first.0 first.1))
+    | inr none ↦ elim (cases_Option (binding s k)) as (λ _. Contains (vs ++ ws) k) [
+      | inl second ↦ Contains-append_right vs ws k ((hs k).0 (IsSome-from_value (binding s k) second.0 second.1))
+      | inr none_either ↦ let nothing = u.no_more k none none_either in cc
+    ]
+  ],
+  λ at. elim (Contains-append_cases vs ws k at) as (λ _. IsSome (binding q k)) [
+    | inl first ↦ let v = value_from_IsSome (binding r k) ((hr k).1 first) in IsSome-from_value (binding q k) v.0 (u.left k v.0 v.1)
+    | inr second ↦ let v = value_from_IsSome (binding s k) ((hs k).1 second) in IsSome-from_value (binding q k) v.0 (u.right k v.0 v.1)
+  ],
+)
+
+-- a row and one that binds the same values agree where the first binds
+pub agrees : {V : Type 0} (vars : List ℕ) (r q : Row V) → BindsJust r vars → ((k : ℕ) (v : V) → binding r k ≡ Some v → binding q k ≡ Some v) → (k : ℕ) → Contains vars k → binding r k ≡ binding q k
+agrees vars r q binds extends k at = let v = value_from_IsSome (binding r k) ((binds k).1 at) in v.1 ∙ sym (extends k v.0 v.1)
+
 module _ {V : Type 0} (test : V → V → Bool) (same : (v w : V) → IsTrue (test v w) ↔ (v ≡ w)) (n : ℕ) (vs ws : List ℕ) (P Q : Row V → Type 0) (left right : List (Row V))
     (are_left : AreRowsOf n vs P left) (are_right : AreRowsOf n ws Q right) where
   -- a row of the Join binds what its two rows bind
   union_of : (r s q : Row V) → Contains left r → Contains right s → merged test r s ≡ Some q → HasWidth n q × IsUnion r s q
   union_of r s q hr hs is = union_from_merged test same n r s q (are_left.sound r hr).width (are_right.sound s hs).width is
-
-  -- and so it binds just the variables of both
-  union_binds : (r s q : Row V) → BindsJust r vs → BindsJust s ws → IsUnion r s q → BindsJust q (vs ++ ws)
-  union_binds r s q hr hs u k = (
-    λ some. elim (cases_Option (binding r k)) as (λ _. Contains (vs ++ ws) k) [
-      | inl first ↦ Contains-append_left vs ws k ((hr k).0 (IsSome-from_value (binding r k) first.0 first.1))
-      | inr none ↦ elim (cases_Option (binding s k)) as (λ _. Contains (vs ++ ws) k) [
-        | inl second ↦ Contains-append_right vs ws k ((hs k).0 (IsSome-from_value (binding s k) second.0 second.1))
-        | inr none_either ↦ let nothing = u.no_more k none none_either in cc
-      ]
-    ],
-    λ at. elim (Contains-append_cases vs ws k at) as (λ _. IsSome (binding q k)) [
-      | inl first ↦ let v = value_from_IsSome (binding r k) ((hr k).1 first) in IsSome-from_value (binding q k) v.0 (u.left k v.0 v.1)
-      | inr second ↦ let v = value_from_IsSome (binding s k) ((hs k).1 second) in IsSome-from_value (binding q k) v.0 (u.right k v.0 v.1)
-    ],
-  )
-
-  -- a row and one that binds the same values agree where the first binds
-  agrees : (vars : List ℕ) (r q : Row V) → BindsJust r vars → ((k : ℕ) (v : V) → binding r k ≡ Some v → binding q k ≡ Some v) → (k : ℕ) → Contains vars k → binding r k ≡ binding q k
-  agrees vars r q binds extends k at = let v = value_from_IsSome (binding r k) ((binds k).1 at) in v.1 ∙ sym (extends k v.0 v.1)
 
   -- the rows of the Join are those that bind just vs and ws and have both P and Q
   pub rows-join : LooksAt vs P → LooksAt ws Q → AreRowsOf n (vs ++ ws) (λ row. P row × Q row) (join test left right)
@@ -190,7 +190,7 @@ module _ {V : Type 0} (test : V → V → Bool) (same : (v w : V) → IsTrue (te
         let u = union_of r s q from.2 from.3 from.4 in
         record {
           width = u.0;
-          binds = union_binds r s q is_r.binds is_s.binds u.1;
+          binds = union_binds vs ws r s q is_r.binds is_s.binds u.1;
           holds = (looks_p.along r q (agrees vs r q is_r.binds u.1.left) is_r.holds, looks_q.along s q (agrees ws s q is_s.binds u.1.right) is_s.holds);
         };
     complete = λ q is.

@@ -43,7 +43,7 @@ HoldsJust-or a b vs ws first second var = (
 )
 
 -- the set of a place
-HoldsJust-place : (place : Place) → HoldsJust (place_set place) (place_vars place)
+pub HoldsJust-place : (place : Place) → HoldsJust (place_set place) (place_vars place)
 HoldsJust-place (places.Var var) = HoldsJust-one var.0
 HoldsJust-place (places.Term text) = HoldsJust-nil
 
@@ -55,18 +55,18 @@ HoldsJust-triple pattern =
     let first = HoldsJust-or s p (place_vars pattern.subject) (place_vars pattern.predicate) (HoldsJust-place pattern.subject) (HoldsJust-place pattern.predicate) in
     HoldsJust-or (bit_or s p) (place_set pattern.object) (place_vars pattern.subject ++ place_vars pattern.predicate) (place_vars pattern.object) first (HoldsJust-place pattern.object)
 
--- a word that holds just some variables, with those of a list of triple patterns
-HoldsJust-fold : (patterns : List TriplePat) (set : ℕ) (vars : List ℕ) → HoldsJust set vars → HoldsJust (fold (λ set pattern. bit_or set (triple_set pattern)) set patterns) (vars ++ flat_map triple_vars patterns)
-HoldsJust-fold [] set vars holds = subst (HoldsJust set) (sym (append-nil vars)) holds
-HoldsJust-fold (pattern ∷ patterns) set vars holds =
-    let mine = triple_vars pattern in
-    let word = fold (λ set pattern. bit_or set (triple_set pattern)) (bit_or set (triple_set pattern)) patterns in
-    subst (HoldsJust word) (append_assoc vars mine (flat_map triple_vars patterns))
-    (HoldsJust-fold patterns (bit_or set (triple_set pattern)) (vars ++ mine) (HoldsJust-or set (triple_set pattern) vars mine holds (HoldsJust-triple pattern)))
+-- a word that holds just some variables, with those of each item of a list
+pub HoldsJust-fold : {X : Type 0} (word : X → ℕ) (vars : X → List ℕ) → ((x : X) → HoldsJust (word x) (vars x)) → (xs : List X) (set : ℕ) (found : List ℕ) → HoldsJust set found →
+    HoldsJust (fold (λ set x. bit_or set (word x)) set xs) (found ++ flat_map vars xs)
+HoldsJust-fold word vars each [] set found holds = subst (HoldsJust set) (sym (append-nil found)) holds
+HoldsJust-fold word vars each (x ∷ xs) set found holds =
+    let all = fold (λ set x. bit_or set (word x)) (bit_or set (word x)) xs in
+    subst (HoldsJust all) (append_assoc found (vars x) (flat_map vars xs))
+    (HoldsJust-fold word vars each xs (bit_or set (word x)) (found ++ vars x) (HoldsJust-or set (word x) found (vars x) holds (each x)))
 
 -- of a list of triple patterns
 pub HoldsJust-list : (patterns : List TriplePat) → HoldsJust (list_set patterns) (vars_of (Bgp patterns))
-HoldsJust-list patterns = HoldsJust-fold patterns 0 [] HoldsJust-nil
+HoldsJust-list patterns = HoldsJust-fold triple_set triple_vars HoldsJust-triple patterns 0 [] HoldsJust-nil
 
 -- of a pattern
 pub HoldsJust-pattern : (pattern : Algebra) → HoldsJust (pattern_set pattern) (vars_of pattern)
@@ -118,7 +118,7 @@ pattern_fits (LeftJoin left right) below =
     (pattern_fits left (All-left (λ var. var < max_variables) (vars_of left) (vars_of right) below), pattern_fits right (All-right (λ var. var < max_variables) (vars_of left) (vars_of right) below))
 
 -- the set of a place is a word
-place_set-lt : (place : Place) → PlaceFits place → place_set place < 2 ^ 64
+pub place_set-lt : (place : Place) → PlaceFits place → place_set place < 2 ^ 64
 place_set-lt (places.Var var) low = pow-lt low
 place_set-lt (places.Term text) low = lit< tt
 

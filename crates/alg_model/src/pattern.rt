@@ -15,6 +15,20 @@ pub enum Place {
     Term(Term),
 }
 
+impl Place {
+    ghost use Rattle.alg_model.specs.Pattern.{place_vars};
+    ghost use Rattle.alg_model.specs.VarSet.{HoldsJust, PlaceFits, place_set};
+
+    /// Its variable, if it is one, as a set in a word, for which it has to be below 64.
+    pub fn vars(&self) -> u64
+        requires { PlaceFits self.now }
+        ensures value { result ≡ place_set self.now }
+        ensures just { HoldsJust result (place_vars self.now) }
+    {
+        place_vars(self)
+    }
+}
+
 /// A triple pattern (SPARQL 1.1 Query, section 18.1.5). `number` counts the patterns of a query from 1, in
 /// the order of its text.
 #[derive(Debug, Drop)]
@@ -35,7 +49,7 @@ impl TriplePat {
         ensures value { result ≡ triple_set self.now }
         ensures just { HoldsJust result (triple_vars self.now) }
     {
-        place_vars(&self.subject) | place_vars(&self.predicate) | place_vars(&self.object)
+        self.subject.vars() | self.predicate.vars() | self.object.vars()
     }
 }
 

@@ -4,7 +4,7 @@ ghost use Rattle.alg_model.specs.VarSet.{place_set, list_set, PlaceFits, TripleF
 
 use crate::{Place, TriplePat};
 
-/// The variables of a place.
+/// The variable of a place, if it is one.
 pub(crate) fn place_vars(place: &Place) -> u64
     requires { PlaceFits place.now }
     ensures { result ≡ place_set place.now }

@@ -1,3 +1,7 @@
-pub mod Verdicts
-pub mod Sides
+pub mod CrossPlaces
+pub mod LeastNumbers
 pub mod Offenders
+pub mod Sides
+pub mod Verdicts
+pub mod Refusing
+pub mod Examples

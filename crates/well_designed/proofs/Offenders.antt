@@ -1,11 +1,10 @@
 -- An offender refutes that the pattern is well designed, there is one at most, and the test answers it.
-use Rattle.std.proofs.Common.{◌≡◌, ◌↔◌, ℕ, ◌+◌, ◌<◌, ◌≤◌, inl, inr, Option, Some, None, Result, Err, All, Contains, refl, sym, ◌∙◌, ap, subst, arith}
+use Rattle.std.proofs.Common.{◌≡◌, ℕ, inl, inr, Option, Some, None, Result, Err, sym, ap, subst, arith}
 use Rattle.std.specs.Prelude.{slice_get}
 use Rattle.std.proofs.lemmas.Bool.{cases_lt}
-use Rattle.std.proofs.lemmas.List.Elements.{All-contains, Contains-get_or}
 use Rattle.std.proofs.lemmas.Option.{slice_get_within, get_or_from_slice_get}
 use Rattle.alg_model.specs.Pattern.{Algebra}
-use Rattle.alg_model.specs.WellDesigned.{OptionalPart, optionals_of, IsFine, Offends, IsFirstOffender, IsOffender, IsWellDesigned}
+use Rattle.alg_model.specs.WellDesigned.{OptionalPart, optionals_of, IsFine, Offends, IsOffender, IsWellDesigned}
 use Rattle.well_designed.specs.declared.design.NotWellDesigned.{NotWellDesigned}
 use Rattle.well_designed.proofs.Verdicts.{IsVerdict, not_offended, verdict-fine, verdict-offender}
 

@@ -1,6 +1,6 @@
 -- What a walk answers of a list of OPTIONALs: nothing where each is fine, and else the first that fails, with its least
 -- variable.
-use Rattle.std.proofs.Common.{◌≡◌, ◌≢◌, ℕ, zero, suc, ◌+◌, ◌<◌, ◌≤◌, ◌==◌, ◌⊎◌, inl, inr, Bool, true, false, if◌then◌else◌, List, [], ◌∷◌, ◌++◌, length, Option, Some, None, All, Contains, ◌↔◌, zero-add, refl, sym, ◌∙◌, ap, subst, arith, eqb-true, eq-eqb, lt-ltb, le-ltb, ne_eqb}
+use Rattle.std.proofs.Common.{◌≡◌, ℕ, zero, suc, ◌+◌, ◌<◌, ◌≤◌, ◌==◌, ◌⊎◌, inl, inr, true, false, List, [], ◌∷◌, ◌++◌, length, Option, Some, None, All, Contains, ◌↔◌, zero-add, refl, sym, ◌∙◌, ap, subst, arith, eq-eqb, lt-ltb, le-ltb, ne_eqb}
 use Rattle.std.specs.Prelude.{nat_lt, slice_get}
 use Rattle.std.specs.Option.{option_or}
 use Rattle.std.proofs.lemmas.Bool.{cond-true, cond-false, cases_lt}

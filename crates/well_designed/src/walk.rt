@@ -2,6 +2,8 @@
 //! one walk goes on in the order of the text, with the variables that it has met, and one goes back. Each
 //! does each part once.
 ghost use Rattle.std.specs.Prelude.{◌≡◌, ◌+◌, ◌-◌, ◌≤◌, true, false};
+ghost use Rattle.std.specs.Int.{w64, bit_not};
+ghost use Rattle.std.specs.Int.Bits.{bit_and};
 ghost use Rattle.alg_model.specs.Limits.{max_optionals};
 ghost use Rattle.alg_model.specs.Pattern.{algebra_of, optional_parts};
 ghost use Rattle.alg_model.specs.VarSet.{pattern_set, PatternFits};
@@ -46,7 +48,7 @@ pub(crate) fn walk_on(pattern: &Pattern, met: u64, before: u8) -> Walked
             let left = walk_on(left, met, before);
             let number = left.optionals + 1;
             let right = walk_on(right, met | left.vars, number);
-            let own = own_fault(number, right.vars & !left.vars & met);
+            let own = own_fault(number, offending(left.vars, right.vars, met));
             Walked {
                 vars: left.vars | right.vars,
                 optionals: right.optionals,
@@ -83,7 +85,7 @@ pub(crate) fn walk_back(pattern: &Pattern, met: u64, end: u8) -> Walked
             let right = walk_back(right, met, end);
             let number = right.optionals;
             let left = walk_back(left, met | right.vars, number - 1);
-            let own = own_fault(number, right.vars & !left.vars & met);
+            let own = own_fault(number, offending(left.vars, right.vars, met));
             Walked {
                 vars: left.vars | right.vars,
                 optionals: left.optionals,
@@ -91,6 +93,13 @@ pub(crate) fn walk_back(pattern: &Pattern, met: u64, end: u8) -> Walked
             }
         }
     }
+}
+
+// The variables of the right side and of those that were met, without those of the left side.
+fn offending(left: u64, right: u64, met: u64) -> u64
+    ensures { result ≡ bit_and (bit_and right (bit_not w64 left)) met }
+{
+    right & !left & met
 }
 
 // The fault of the OPTIONAL with a number, where these variables offend there.

@@ -1,6 +1,5 @@
-use Rattle.std.proofs.Common.{◌≡◌, Option, Some, None, refl}
+use Rattle.std.proofs.Common.{refl}
 use Rattle.alg_model.specs.Pattern.{algebra_of}
-use Rattle.alg_model.specs.WellDesigned.{IsOffender}
 use Rattle.alg_model.proofs.VarSets.{pattern_fits}
 use Rattle.well_designed.proofs.Sides.{answered}
 use Rattle.well_designed.proofs.Offenders.{not_well_designed, offender_along, offender_one, fine-verdict, offender-verdict}

@@ -1,0 +1,62 @@
+// The laws of pattern trees. Each call does nothing: its contract is the law.
+ghost use Rattle.std.specs.Prelude.{◌≢◌, ◌↔◌, ◌⊎◌, ℕ, List, All, AllPairs, Contains};
+ghost use Rattle.alg_model.specs.declared.pattern.TriplePat.{TriplePat};
+ghost use Rattle.alg_model.specs.Row.{Row, Extends};
+ghost use Rattle.alg_model.specs.Pattern.{Algebra, Bgp, Join, LeftJoin, HasVarsBelow, vars_of};
+ghost use Rattle.alg_model.specs.Eval.{Interpretation, eval};
+ghost use Rattle.alg_model.specs.Solution.{IsSolution, TellsValues, TellsTriples};
+ghost use Rattle.alg_model.specs.WellDesigned.{optionals_beside, IsFine, IsWellDesigned};
+ghost use Rattle.pattern_tree.specs.Parts.{IsMergeOf, IsAlone};
+ghost use Rattle.pattern_tree.specs.Solution.{Family, all_matches, IsPartialRow, IsMaximalRow};
+ghost use Rattle.pattern_tree.specs.Tree.{root_patterns, tree_of};
+
+/// In a well-designed pattern a variable that occurs in a part and outside of it occurs in the root of the part's
+/// tree.
+pub fn shared_variable_law()
+    ensures { (outside : List ℕ) (part : Algebra) → All IsFine (optionals_beside outside part) →
+        (var : ℕ) → Contains (vars_of part) var → Contains outside var → Contains (vars_of (Bgp (root_patterns part))) var }
+{}
+
+/// The partial solutions of a pattern by those of its sides, over any family: of a Join they are the merges, of a
+/// LeftJoin those of the left side, and the merges. Those of a basic graph pattern over its matches are its solutions.
+pub fn partial_solution_law<V, X>()
+    ensures joined { (interpretation : Interpretation V X) (n : ℕ) (family : Family X) (left right : Algebra) → TellsValues interpretation →
+        (row : Row V) → IsPartialRow interpretation n (tree_of (Join left right)) family row
+        ↔ IsMergeOf interpretation.same (IsPartialRow interpretation n (tree_of left) family) (IsPartialRow interpretation n (tree_of right) family) row }
+    ensures optional { (interpretation : Interpretation V X) (n : ℕ) (family : Family X) (left right : Algebra) → TellsValues interpretation →
+        (row : Row V) → IsPartialRow interpretation n (tree_of (LeftJoin left right)) family row
+        ↔ (IsPartialRow interpretation n (tree_of left) family row
+        ⊎ IsMergeOf interpretation.same (IsPartialRow interpretation n (tree_of left) family) (IsPartialRow interpretation n (tree_of right) family) row) }
+    ensures basic { (interpretation : Interpretation V X) (n : ℕ) (patterns : List TriplePat) (triples : List X) → TellsValues interpretation → HasVarsBelow n (Bgp patterns) →
+        (row : Row V) → IsPartialRow interpretation n (tree_of (Bgp patterns)) (all_matches interpretation n triples) row ↔ IsSolution interpretation n patterns triples row }
+{}
+
+/// The maximal partial solutions of a well-designed pattern by those of its sides: of a Join they are the merges, of a
+/// LeftJoin the merges, and those of the left side that are compatible with none of the right side.
+pub fn maximal_solution_law<V, X>()
+    ensures joined { (interpretation : Interpretation V X) (n : ℕ) (left right : Algebra) (triples : List X) → TellsValues interpretation →
+        HasVarsBelow n (Join left right) → IsWellDesigned (Join left right) →
+        (row : Row V) → IsMaximalRow interpretation n (tree_of (Join left right)) (all_matches interpretation n triples) row
+        ↔ IsMergeOf interpretation.same (IsMaximalRow interpretation n (tree_of left) (all_matches interpretation n triples)) (IsMaximalRow interpretation n (tree_of right) (all_matches interpretation n triples)) row }
+    ensures optional { (interpretation : Interpretation V X) (n : ℕ) (left right : Algebra) (triples : List X) → TellsValues interpretation →
+        HasVarsBelow n (LeftJoin left right) → IsWellDesigned (LeftJoin left right) →
+        (row : Row V) → IsMaximalRow interpretation n (tree_of (LeftJoin left right)) (all_matches interpretation n triples) row
+        ↔ (IsMergeOf interpretation.same (IsMaximalRow interpretation n (tree_of left) (all_matches interpretation n triples)) (IsMaximalRow interpretation n (tree_of right) (all_matches interpretation n triples)) row
+        ⊎ IsAlone interpretation.same (IsMaximalRow interpretation n (tree_of left) (all_matches interpretation n triples)) (IsMaximalRow interpretation n (tree_of right) (all_matches interpretation n triples)) row) }
+{}
+
+/// The pattern-tree law: evaluation of a well-designed pattern gives exactly the rows of the maximal partial solutions
+/// over the matches of its tree. Over triples that are told apart each comes once. Each partial solution is
+/// extended by a maximal one.
+pub fn pattern_tree_law<V, X>()
+    ensures exactly { (interpretation : Interpretation V X) (n : ℕ) (pattern : Algebra) (triples : List X) → TellsValues interpretation →
+        HasVarsBelow n pattern → IsWellDesigned pattern →
+        (row : Row V) → Contains (eval interpretation n pattern triples) row ↔ IsMaximalRow interpretation n (tree_of pattern) (all_matches interpretation n triples) row }
+    ensures once { (interpretation : Interpretation V X) (n : ℕ) (pattern : Algebra) (triples : List X) → TellsValues interpretation → TellsTriples interpretation triples →
+        HasVarsBelow n pattern → IsWellDesigned pattern → AllPairs (λ t u. t ≢ u) triples →
+        AllPairs (λ r s. r ≢ s) (eval interpretation n pattern triples) }
+    ensures covered { (interpretation : Interpretation V X) (n : ℕ) (pattern : Algebra) (triples : List X) → TellsValues interpretation →
+        HasVarsBelow n pattern → IsWellDesigned pattern →
+        (row : Row V) → IsPartialRow interpretation n (tree_of pattern) (all_matches interpretation n triples) row →
+        (whole : Row V) × IsMaximalRow interpretation n (tree_of pattern) (all_matches interpretation n triples) whole × Extends whole row }
+{}
