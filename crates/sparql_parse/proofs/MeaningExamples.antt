@@ -2,7 +2,7 @@
 use Rattle.std.proofs.Common.{◌≡◌, inr, inl, ℕ, ◌==◌, List, [], ◌∷◌, length, codes, refl, sym, ap, subst, arith, length-append}
 use Rattle.std.specs.Str.{chars}
 use Rattle.rdf_text.specs.Classes.{is_sparql_label_first, is_sparql_pn_chars_u, is_pn_chars_base}
-use Rattle.query_tokens.specs.Marks.{question_mark}
+use Rattle.rdf_text.specs.Marks.{question_mark}
 use Rattle.query_tokens.specs.Token.{Lexeme}
 use Rattle.query_tokens.specs.Variables.{IsVariableName}
 use Rattle.query_tokens.specs.declared.token.TokenKind.{TokenKind}
