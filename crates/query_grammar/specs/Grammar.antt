@@ -8,9 +8,9 @@ use Rattle.query_grammar.specs.declared.syntax.Role.{Role}
 use Rattle.query_grammar.specs.declared.syntax.Role.TheVariants as roles
 use Rattle.query_grammar.specs.Terminals.{terminal_of}
 use Rattle.query_grammar.specs.Roles.{Labelled, tokens_of, with_role}
-use Rattle.query_grammar.specs.Tree.{Node, VariableNode, IriNode, StringNode, TaggedNode, TypedNode, NumberNode, BooleanNode, TypeNode, Property, Same, Parts, NoParts, OptionalPart, NestedPart, Group, Declaration, Columns, AllColumns, Variables, Syntax}
+use Rattle.query_grammar.specs.Tree.{Node, VariableNode, IriNode, StringNode, TaggedNode, TypedNode, NumberNode, BooleanNode, TypeNode, Property, Same, Elements, EndOfGroup, Element, OptionalGroup, NestedGroup, Group, Declaration, Columns, AllColumns, Variables, Syntax}
 
--- What a symbol of the grammar spells: the labelled tokens from a place on begin with it, and what is left behind it.
+-- What a symbol of the grammar spells: the labelled tokens from a place on begin with it, and what is left after it.
 abbrev pub Spelling : Type 1
 Spelling = List Labelled → List Labelled → Type 0
 
@@ -115,16 +115,16 @@ abbrev pub InBraces : Spelling → Spelling
 InBraces inside = SomeToken terminals.Open roles.Open ▸ inside ▸ SomeToken terminals.Close roles.Close
 
 -- (element '.'? block?)*, where element ::= 'OPTIONAL' group | group
-abbrev pub AreParts : Parts → Spelling
-AreParts NoParts = Nothing
-AreParts (OptionalPart block parts next rest) =
-    SomeToken terminals.OptionalWord roles.Optional ▸ InBraces (IsBlock block ▸ AreParts parts) ▸ Maybe (Keyword terminals.Stop) ▸ IsBlock next ▸ AreParts rest
-AreParts (NestedPart block parts next rest) =
-    InBraces (IsBlock block ▸ AreParts parts) ▸ Maybe (Keyword terminals.Stop) ▸ IsBlock next ▸ AreParts rest
+abbrev pub AreElements : Elements → Spelling
+AreElements EndOfGroup = Nothing
+AreElements (Element OptionalGroup block elements next rest) =
+    SomeToken terminals.OptionalWord roles.Optional ▸ InBraces (IsBlock block ▸ AreElements elements) ▸ Maybe (Keyword terminals.Stop) ▸ IsBlock next ▸ AreElements rest
+AreElements (Element NestedGroup block elements next rest) =
+    InBraces (IsBlock block ▸ AreElements elements) ▸ Maybe (Keyword terminals.Stop) ▸ IsBlock next ▸ AreElements rest
 
 -- group ::= '{' block? (element '.'? block?)* '}'
 abbrev pub IsGroup : Group → Spelling
-IsGroup group = InBraces (IsBlock group.block ▸ AreParts group.parts)
+IsGroup group = InBraces (IsBlock group.block ▸ AreElements group.elements)
 
 -- variable*
 abbrev pub AreMoreVariables : List Lexeme → Spelling

@@ -9,7 +9,7 @@ use Rattle.sparql_parse.proofs.build.take_all.Goals as goal
 
 pub take-requires-clause-few : goal.take-requires-clause-few
 take-requires-clause-few c =
-    let scope = scope_in c.args.scope.now in
+    let scope = scope_in c.args.symbols.now in
     let s = state_in c.args.builder.now in
     let ls = map labelled_in c.args.tokens.now in
     let bound = next-bound scope s ls c.loop-read.read-index in
@@ -18,7 +18,7 @@ take-requires-clause-few c =
 
 pub loop-read-preserved : goal.loop-read-preserved
 loop-read-preserved c =
-    let scope = scope_in c.args.scope.now in
+    let scope = scope_in c.args.symbols.now in
     let s = state_in c.args.builder.now in
     let more = built-more scope s (state_in c.loop-read.builder) c.args.tokens.now c.loop-read.read-index _ c.loop-read-test.true c.loop-read.invariant.is in
     record { is = c.in_ok-take.ensures.state ∙ more; sound = c.in_ok-take.ensures.sound }
