@@ -166,7 +166,7 @@ comma-objects token is (node ∷ nodes) ls to spelled = (ls, (token, (is, refl))
 semicolon-properties : (token : Lexeme) → Front terminals.Semicolon token → (properties : List Property) (ls to : List Labelled) → AfterSemicolon properties ls to →
     AreMoreProperties properties (with_role roles.Keyword token ∷ ls) to
 semicolon-properties token is [] ls to semicolons = more _ ls to (token, (is, refl)) semicolons
-semicolon-properties token is (property ∷ properties) ls to spelled = (ls, (token, (is, refl)), spelled)
+semicolon-properties token is (property ∷ properties) ls to (m, semicolons, spelled) = (m, (ls, (token, (is, refl)), semicolons), spelled)
 
 semicolon-semicolon : (token : Lexeme) → Front terminals.Semicolon token → (properties : List Property) (ls to : List Labelled) → AfterSemicolon properties ls to →
     AfterSemicolon properties (with_role roles.Keyword token ∷ ls) to

@@ -123,10 +123,10 @@ more_properties-carry : (n : ℕ) (ps : List Property) (block : List Same) (q : 
     Carries (AreMoreProperties ps) (On (after_objects_step n) (inside NoSuffix [] ps block q)) (On (after_objects_step n) (inside NoSuffix [] [] block q))
 more_properties-carry n [] block q = record { carry = last_semicolons-from n block q }
 more_properties-carry n (property ∷ ps) block q =
-    c-then (c-keyword (after_objects_step n) terminals.Semicolon expects.AfterSemicolon n (inside NoSuffix [] (property ∷ ps) block q) refl)
-    (c-then (semicolons-carry n (property ∷ ps) block q)
+    c-then
+    (c-then (c-keyword (after_objects_step n) terminals.Semicolon expects.AfterSemicolon n (inside NoSuffix [] (property ∷ ps) block q) refl) (semicolons-carry n (property ∷ ps) block q))
     (c-then (c-before (weaken (inside NoSuffix [] (property ∷ ps) block q) (verb-after_semicolon n)) (property-carries n property ps block q))
-    (more_properties-carry n ps block q)))
+    (more_properties-carry n ps block q))
 
 properties-carry : (n : ℕ) (ps : List Property) (block : List Same) (q : Remainder) →
     Carries (AreProperties ps) (On (verb_step n) (inside NoSuffix [] ps block q)) (On (after_objects_step n) (inside NoSuffix [] [] block q))

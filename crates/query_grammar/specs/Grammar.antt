@@ -71,10 +71,14 @@ IsVerb (IriNode token) = IsIri roles.Verb token
 IsVerb (TypeNode token) = Token terminals.A roles.Verb token
 IsVerb _ = Never
 
+-- items in a row, each after a separator, and what comes after the last of them
+abbrev pub EachAfter : {A : Type 0} → Spelling → (A → Spelling) → Spelling → List A → Spelling
+EachAfter separator item end [] = end
+EachAfter separator item end (x ∷ xs) = separator ▸ item x ▸ EachAfter separator item end xs
+
 -- (',' node)*
 abbrev pub AreMoreObjects : List Node → Spelling
-AreMoreObjects [] = Nothing
-AreMoreObjects (node ∷ nodes) = Keyword terminals.Comma ▸ IsNode roles.Object node ▸ AreMoreObjects nodes
+AreMoreObjects nodes = EachAfter (Keyword terminals.Comma) (IsNode roles.Object) Nothing nodes
 
 -- objects ::= node (',' node)*
 abbrev pub AreObjects : List Node → Spelling
@@ -85,11 +89,13 @@ AreObjects (node ∷ nodes) = IsNode roles.Object node ▸ AreMoreObjects nodes
 abbrev pub IsProperty : Property → Spelling
 IsProperty property = IsVerb property.verb ▸ AreObjects property.objects
 
+-- ';'+
+abbrev pub Semicolons : Spelling
+Semicolons = Keyword terminals.Semicolon ▸ Many (Keyword terminals.Semicolon)
+
 -- (';' (verb objects)?)*: semicolons before each verb, and at the end any number of them
 abbrev pub AreMoreProperties : List Property → Spelling
-AreMoreProperties [] = Many (Keyword terminals.Semicolon)
-AreMoreProperties (property ∷ properties) =
-    Keyword terminals.Semicolon ▸ Many (Keyword terminals.Semicolon) ▸ IsProperty property ▸ AreMoreProperties properties
+AreMoreProperties properties = EachAfter Semicolons IsProperty (Many (Keyword terminals.Semicolon)) properties
 
 -- list ::= verb objects (';' (verb objects)?)*
 abbrev pub AreProperties : List Property → Spelling
@@ -102,8 +108,7 @@ IsSame same = IsNode roles.Subject same.subject ▸ AreProperties same.propertie
 
 -- ('.' block?)?
 abbrev pub AreMoreSames : List Same → Spelling
-AreMoreSames [] = Maybe (Keyword terminals.Stop)
-AreMoreSames (same ∷ block) = Keyword terminals.Stop ▸ IsSame same ▸ AreMoreSames block
+AreMoreSames block = EachAfter (Keyword terminals.Stop) IsSame (Maybe (Keyword terminals.Stop)) block
 
 -- block?, where block ::= same ('.' block?)?
 abbrev pub IsBlock : List Same → Spelling

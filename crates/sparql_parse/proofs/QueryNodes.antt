@@ -149,8 +149,8 @@ module _ (tokens : List Labelled) (scope : Scope) (agrees : Agrees tokens scope)
   g-more_properties : (properties : List Property) → Gives (AreMoreProperties properties) (PropertiesPlaces properties)
   g-more_properties [] = g-map (λ many. tt) (g-many terminals.Semicolon)
   g-more_properties (property ∷ properties) =
-      g-map (λ (one, (many, (first, others))). (first, others))
-      (g-then (g-some terminals.Semicolon roles.Keyword) (g-then (g-many terminals.Semicolon) (g-then (g-property property) (g-more_properties properties))))
+      g-map (λ (semicolons, (first, others)). (first, others))
+      (g-then (g-then (g-some terminals.Semicolon roles.Keyword) (g-many terminals.Semicolon)) (g-then (g-property property) (g-more_properties properties)))
 
   g-properties : (properties : List Property) → Gives (AreProperties properties) (PropertiesPlaces properties)
   g-properties [] = g-never

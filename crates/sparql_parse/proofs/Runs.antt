@@ -9,7 +9,7 @@ use Rattle.query_grammar.specs.declared.syntax.Role.TheVariants as roles
 use Rattle.query_grammar.specs.Terminals.{terminal_of}
 use Rattle.query_grammar.specs.Roles.{Labelled, with_role}
 use Rattle.query_grammar.specs.Tree.{Node, VariableNode, IriNode, StringNode, TaggedNode, TypedNode, NumberNode, BooleanNode, TypeNode, Property, Same, Elements, EndOfGroup, Element, OptionalGroup, NestedGroup, Group, Declaration, Columns, AllColumns, Variables, Syntax}
-use Rattle.query_grammar.specs.Grammar.{Spelling, ◌▸◌, Nothing, Maybe, Many, none, more, Token, SomeToken, Keyword, IsIri, IsNode, IsVerb, AreMoreObjects, AreObjects, IsProperty, AreMoreProperties, AreProperties, IsSame, AreMoreSames, IsBlock, InBraces, AreElements, IsGroup, AreMoreVariables, AreColumns, IsDistinct, IsDeclaration, IsPrologue, SpellsQuery}
+use Rattle.query_grammar.specs.Grammar.{Spelling, ◌▸◌, Nothing, Maybe, Many, none, more, Token, SomeToken, Keyword, IsIri, IsNode, IsVerb, AreMoreObjects, AreObjects, IsProperty, Semicolons, AreMoreProperties, AreProperties, IsSame, AreMoreSames, IsBlock, InBraces, AreElements, IsGroup, AreMoreVariables, AreColumns, IsDistinct, IsDeclaration, IsPrologue, SpellsQuery}
 use Rattle.sparql_parse.specs.computed.Meaning.{Scope}
 use Rattle.sparql_parse.specs.computed.Building.{State, step, in_role, built, settled, opened, closed, with_triple, with_column}
 
@@ -184,8 +184,8 @@ more_properties-does : (scope : Scope) (properties : List Property) → Does sco
 more_properties-does scope [] = many-does scope terminals.Semicolon
 more_properties-does scope (property ∷ properties) =
     let last = then scope (IsProperty property) (AreMoreProperties properties) (after_property scope property) (after_properties scope properties) (property-does scope property) (more_properties-does scope properties) in
-    let rest = then scope (Many (Keyword terminals.Semicolon)) (IsProperty property ▸ AreMoreProperties properties) same_state (after_properties scope (property ∷ properties)) (many-does scope terminals.Semicolon) last in
-    then scope (Keyword terminals.Semicolon) (Many (Keyword terminals.Semicolon) ▸ IsProperty property ▸ AreMoreProperties properties) same_state (after_properties scope (property ∷ properties)) (keyword-does scope terminals.Semicolon) rest
+    let signs = then scope (Keyword terminals.Semicolon) (Many (Keyword terminals.Semicolon)) same_state same_state (keyword-does scope terminals.Semicolon) (many-does scope terminals.Semicolon) in
+    then scope Semicolons (IsProperty property ▸ AreMoreProperties properties) same_state (after_properties scope (property ∷ properties)) signs last
 
 properties-does : (scope : Scope) (properties : List Property) → Does scope (AreProperties properties) (after_properties scope properties)
 properties-does scope [] from to s is = absurd is
