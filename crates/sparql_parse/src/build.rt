@@ -9,7 +9,7 @@ ghost use Rattle.query_grammar.specs.declared.syntax.Role.TheVariants as roles;
 ghost use Rattle.alg_model.specs.Pattern.{algebra_of, vars_of};
 ghost use Rattle.alg_model.specs.Limits.{max_triple_patterns};
 ghost use Rattle.sparql_parse.specs.computed.Building.{built, columns_after, in_role, next_settled, pattern_at, settled, start, step};
-ghost use Rattle.sparql_parse.specs.held.Builds.{IsSoundState, IsTranslation, labelled_in, state_in};
+ghost use Rattle.sparql_parse.specs.held.Builds.{IsSoundState, IsTaken, IsTranslation, MayTake, labelled_in, state_in};
 ghost use Rattle.sparql_parse.specs.Faults.{is_object};
 ghost use Rattle.sparql_parse.specs.computed.Meaning.{Scope, each_first};
 ghost use Rattle.sparql_parse.specs.held.Nodes.{IsSound, node_in};
@@ -113,11 +113,8 @@ impl<'a> Builder<'a> {
 
     // A variable of the SELECT clause.
     fn column(&mut self, symbols: &SymbolTable, token: Token<'a>) -> Result<(), AllocError>
-        requires sound { IsSoundState (state_in self.old) }
-        requires few { (state_in self.old).body.next + 1 < 2 ^ 16 }
-        requires spelled { IsSpelled (shown token) }
-        ensures state { OnOk result (state_in self.new ≡ in_role (scope_in symbols.now) (state_in self.old) roles.Column (terminal_of (shown token.entry)) (shown token.entry)) }
-        ensures sound { OnOk result (IsSoundState (state_in self.new)) }
+        requires { MayTake (state_in self.old) (shown token) }
+        ensures { OnOk result (IsTaken (scope_in symbols.now) (state_in self.old) roles.Column (shown token.entry) (state_in self.new)) }
     {
         let var = number(symbols, token);
         put_column(&mut self.columns, var)
@@ -125,11 +122,8 @@ impl<'a> Builder<'a> {
 
     // The `{` of a group.
     fn open(&mut self, symbols: &SymbolTable, token: Token<'a>) -> Result<(), AllocError>
-        requires sound { IsSoundState (state_in self.old) }
-        requires few { (state_in self.old).body.next + 1 < 2 ^ 16 }
-        requires spelled { IsSpelled (shown token) }
-        ensures state { OnOk result (state_in self.new ≡ in_role (scope_in symbols.now) (state_in self.old) roles.Open (terminal_of (shown token.entry)) (shown token.entry)) }
-        ensures sound { OnOk result (IsSoundState (state_in self.new)) }
+        requires { MayTake (state_in self.old) (shown token) }
+        ensures { OnOk result (IsTaken (scope_in symbols.now) (state_in self.old) roles.Open (shown token.entry) (state_in self.new)) }
     {
         self.settle(symbols)?;
         self.body.open(self.optional)?;
@@ -139,11 +133,8 @@ impl<'a> Builder<'a> {
 
     // The `}` of a group.
     fn close(&mut self, symbols: &SymbolTable, token: Token<'a>) -> Result<(), AllocError>
-        requires sound { IsSoundState (state_in self.old) }
-        requires few { (state_in self.old).body.next + 1 < 2 ^ 16 }
-        requires spelled { IsSpelled (shown token) }
-        ensures state { OnOk result (state_in self.new ≡ in_role (scope_in symbols.now) (state_in self.old) roles.Close (terminal_of (shown token.entry)) (shown token.entry)) }
-        ensures sound { OnOk result (IsSoundState (state_in self.new)) }
+        requires { MayTake (state_in self.old) (shown token) }
+        ensures { OnOk result (IsTaken (scope_in symbols.now) (state_in self.old) roles.Close (shown token.entry) (state_in self.new)) }
     {
         self.settle(symbols)?;
         self.body.close()
@@ -151,11 +142,8 @@ impl<'a> Builder<'a> {
 
     // The first token of a subject.
     fn subject(&mut self, symbols: &SymbolTable, token: Token<'a>) -> Result<(), AllocError>
-        requires sound { IsSoundState (state_in self.old) }
-        requires few { (state_in self.old).body.next + 1 < 2 ^ 16 }
-        requires spelled { IsSpelled (shown token) }
-        ensures state { OnOk result (state_in self.new ≡ in_role (scope_in symbols.now) (state_in self.old) roles.Subject (terminal_of (shown token.entry)) (shown token.entry)) }
-        ensures sound { OnOk result (IsSoundState (state_in self.new)) }
+        requires { MayTake (state_in self.old) (shown token) }
+        ensures { OnOk result (IsTaken (scope_in symbols.now) (state_in self.old) roles.Subject (shown token.entry) (state_in self.new)) }
     {
         self.settle(symbols)?;
         self.subject = node_of(token);
@@ -164,11 +152,8 @@ impl<'a> Builder<'a> {
 
     // The token of a verb.
     fn verb(&mut self, symbols: &SymbolTable, token: Token<'a>) -> Result<(), AllocError>
-        requires sound { IsSoundState (state_in self.old) }
-        requires few { (state_in self.old).body.next + 1 < 2 ^ 16 }
-        requires spelled { IsSpelled (shown token) }
-        ensures state { OnOk result (state_in self.new ≡ in_role (scope_in symbols.now) (state_in self.old) roles.Verb (terminal_of (shown token.entry)) (shown token.entry)) }
-        ensures sound { OnOk result (IsSoundState (state_in self.new)) }
+        requires { MayTake (state_in self.old) (shown token) }
+        ensures { OnOk result (IsTaken (scope_in symbols.now) (state_in self.old) roles.Verb (shown token.entry) (state_in self.new)) }
     {
         self.settle(symbols)?;
         self.verb = node_of(token);
@@ -177,11 +162,8 @@ impl<'a> Builder<'a> {
 
     // The first token of an object.
     fn object(&mut self, symbols: &SymbolTable, token: Token<'a>) -> Result<(), AllocError>
-        requires sound { IsSoundState (state_in self.old) }
-        requires few { (state_in self.old).body.next + 1 < 2 ^ 16 }
-        requires spelled { IsSpelled (shown token) }
-        ensures state { OnOk result (state_in self.new ≡ in_role (scope_in symbols.now) (state_in self.old) roles.Object (terminal_of (shown token.entry)) (shown token.entry)) }
-        ensures sound { OnOk result (IsSoundState (state_in self.new)) }
+        requires { MayTake (state_in self.old) (shown token) }
+        ensures { OnOk result (IsTaken (scope_in symbols.now) (state_in self.old) roles.Object (shown token.entry) (state_in self.new)) }
     {
         self.settle(symbols)?;
         self.object = Some(node_of(token));
@@ -215,13 +197,9 @@ impl<'a> Builder<'a> {
     }
 
     // Takes a token in its role. Where memory runs out, nothing is said of the builder.
-    #[tactic(auto, unfolding(crate::specs::computed::Building::step))]
     fn take(&mut self, symbols: &SymbolTable, role: Role, token: Token<'a>) -> Result<(), AllocError>
-        requires sound { IsSoundState (state_in self.old) }
-        requires few { (state_in self.old).body.next + 1 < 2 ^ 16 }
-        requires spelled { IsSpelled (shown token) }
-        ensures state { OnOk result (state_in self.new ≡ step (scope_in symbols.now) (state_in self.old) (with_role role (shown token.entry))) }
-        ensures sound { OnOk result (IsSoundState (state_in self.new)) }
+        requires { MayTake (state_in self.old) (shown token) }
+        ensures { OnOk result (IsTaken (scope_in symbols.now) (state_in self.old) role (shown token.entry) (state_in self.new)) }
     {
         match role {
             Role::Keyword | Role::Declared | Role::Namespace => Ok(()),
