@@ -28,15 +28,9 @@ use Rattle.query_values.proofs.LocalValues.{from_colon-name, before_colon, local
 use Rattle.query_values.proofs.TermLaws.{lower_characters, other_text}
 use Rattle.query_values.proofs.TokenLaws.{lexical_characters, number_type-irichars, number_type-other, xsd_boolean-irichars, xsd_boolean-other}
 
-<<<<<<< HEAD
--- what is read of a text in brackets is what stands behind the first of them
+-- what is read of a text in brackets is what stands after the first of them
 read_is_behind : (text rest iri : List ℕ) → scan_iri_ref text ≡ Some (iri, rest) → values iri_piece (after_first text) ≡ iri
 unfolding scan_iri_ref scan_iri_body
-=======
--- what is read of a text in brackets is what stands after the first of them
-read_is_behind : (text rest iri : List ℕ) → read_iri_ref text ≡ Some (iri, rest) → values iri_piece (after_first text) ≡ iri
-unfolding read_iri_ref read_iri_body
->>>>>>> origin/parse
 read_is_behind text rest iri e =
     option_and_then_some _ (after_char less_than text) (iri, rest) e (λ body opens e.
     option_and_then_some _ (after_char greater_than (after_values iri_piece body)) (iri, rest) e (λ end closes e.

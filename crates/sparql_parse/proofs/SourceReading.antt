@@ -16,13 +16,8 @@ use Rattle.sparql_parse.specs.computed.Reading.{is_nothing, token_before, tokens
 abbrev token_at : ℕ → List ℕ → Lexeme
 token_at at whole = token_before (at + length (encode_utf8_all (before whole (after_blanks whole)))) (after_blanks whole) (scan_or_bad (after_blanks whole))
 
-<<<<<<< HEAD
-abbrev behind : List ℕ → List ℕ
-behind whole = (scan_or_bad (after_blanks whole)).1
-=======
 abbrev after : List ℕ → List ℕ
-after whole = (read_or_bad (after_blanks whole)).1
->>>>>>> origin/parse
+after whole = (scan_or_bad (after_blanks whole)).1
 
 record Next (at : ℕ) (whole : List ℕ) : Type 0 where
   next : IsNextToken at whole (token_at at whole) (after whole)
