@@ -1,7 +1,7 @@
 -- The triple patterns of a rooted set of nodes, part by part: those of the left side of an OPTIONAL, with or without
 -- those of its right side. They hold the root's, and in a well-designed pattern a variable that a part shares with what
 -- is outside of it stands in the root of the part.
-use Rattle.std.proofs.Common.{◌≡◌, ◌⊎◌, ℕ, ◌++◌, inl, inr, List, [], ◌∷◌, flat_map, All, Contains, refl, sym, subst}
+use Rattle.std.proofs.Common.{◌≡◌, ◌⊎◌, ℕ, ◌++◌, inl, inr, List, ◌∷◌, All, Contains, sym, subst}
 use Rattle.std.proofs.lemmas.List.Concat.{flat_map-append}
 use Rattle.std.proofs.lemmas.List.Elements.{All-head, All-tail, Contains-append_left, Contains-append_right, Contains-append_cases}
 use Rattle.alg_model.specs.declared.pattern.TriplePat.{TriplePat}

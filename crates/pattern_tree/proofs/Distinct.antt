@@ -1,21 +1,20 @@
 -- In a well-designed pattern no row extends another, and over triples that are told apart no row stands twice.
-use Rattle.std.proofs.Common.{◌≡◌, ◌≢◌, ◌↔◌, ℕ, ◌<◌, ◌++◌, inl, inr, Bool, true, false, not, List, [], ◌∷◌, filter_map, flat_map, All, AllPairs, Contains, Option, Some, None, option_to_list, refl, sym, ◌∙◌, ap, subst}
+use Rattle.std.proofs.Common.{◌≡◌, ◌≢◌, ℕ, ◌<◌, ◌++◌, inl, inr, Bool, not, List, filter_map, AllPairs, Contains, Some, option_to_list, sym, subst}
 use Rattle.std.proofs.lemmas.List.Elements.{Contains-append_cases}
 use Rattle.std.proofs.lemmas.List.Kept.{AllPairs-filter}
 use Rattle.std.specs.List.{list_any}
-use Rattle.alg_model.specs.Row.{Row, binding, Extends, are_compatible, merged, join, without_partner}
+use Rattle.alg_model.specs.Row.{Row, Extends, are_compatible, merged, join, without_partner}
 use Rattle.alg_model.specs.Pattern.{Algebra, Bgp, Join, LeftJoin, HasVarsBelow, vars_of}
 use Rattle.alg_model.specs.Eval.{Interpretation}
 use Rattle.alg_model.specs.Solution.{TellsValues, TellsTriples}
 use Rattle.alg_model.proofs.BasicPatterns.{basic-exactly, basic-once}
-use Rattle.alg_model.proofs.Cells.{value_from_IsSome, IsUnion, union_from_merged}
+use Rattle.alg_model.proofs.Cells.{IsUnion, union_from_merged}
 use Rattle.alg_model.proofs.Joins.{join-Contains, merged_as_flat_map, merges-Contains, determined}
 use Rattle.alg_model.proofs.Lists.{option-Contains, AllPairs-option, AllPairs-append, once-flat_map}
 use Rattle.alg_model.proofs.VarSets.{All-left, All-right}
-use Rattle.alg_model.proofs.Width.{HasWidth}
 use Rattle.pattern_tree.proofs.Choices.{IsFineBeside, fine-join_left, fine-join_right, fine-left_join_left, fine-left_join_right, ShareRoots, sides_share}
 use Rattle.pattern_tree.proofs.Unions.{Extends-refl, Extends-trans}
-use Rattle.pattern_tree.proofs.Evaluation.{rows, test, IsPartial, row_is_partial, extends_left, extends_right, alone_left, not_alone}
+use Rattle.pattern_tree.proofs.Evaluation.{rows, IsPartial, row_is_partial, extends_left, extends_right, alone_left, not_alone}
 
 module _ {V X : Type 0} (interpretation : Interpretation V X) (tells : TellsValues interpretation) (n : ℕ) (triples : List X) where
   abbrev same : V → V → Bool

@@ -1,6 +1,6 @@
 -- Evaluation and partial solutions, part by part: each row of a pattern is that of a partial solution, each partial
 -- solution is extended by a row, and in a well-designed pattern no row extends another.
-use Rattle.std.proofs.Common.{◌≡◌, ◌≢◌, ◌↔◌, ◌⊎◌, ℕ, ◌<◌, ◌++◌, inl, inr, Bool, true, false, not, List, [], ◌∷◌, get_or, length, filter, filter_map, flat_map, All, AllPairs, Any, Contains, Option, Some, None, IsTrue, IsSome, is_some, if◌then◌else◌, option_to_list, refl, sym, ◌∙◌, ap, subst, arith}
+use Rattle.std.proofs.Common.{◌≡◌, ◌⊎◌, ℕ, ◌<◌, ◌++◌, inl, inr, Bool, true, false, not, List, [], ◌∷◌, get_or, length, filter, Contains, Option, Some, None, IsSome, is_some, if◌then◌else◌, refl, sym, ap, subst, arith}
 use Rattle.std.proofs.lemmas.Bool.{not-true, cond-true}
 use Rattle.std.proofs.lemmas.List.Elements.{All-contains, Contains-get_or, Contains-append_left, Contains-append_right, Contains-append_cases}
 use Rattle.std.proofs.lemmas.List.Folds.{list_any_at, Any-from_list_any}
@@ -8,12 +8,12 @@ use Rattle.std.proofs.lemmas.Option.{cond_some}
 use Rattle.std.specs.List.{list_any}
 use Rattle.bm_term.proofs.Elements.{Contains-head, Contains-nil, Contains-single}
 use Rattle.alg_model.specs.declared.pattern.TriplePat.{TriplePat}
-use Rattle.alg_model.specs.Row.{Row, binding, Extends, cells_agree, are_compatible, merge, merged, join, without_partner, left_join}
+use Rattle.alg_model.specs.Row.{Row, binding, Extends, cells_agree, are_compatible, merge, merged, join, without_partner}
 use Rattle.alg_model.specs.Pattern.{Algebra, Bgp, Join, LeftJoin, HasVarsBelow, triple_vars, vars_of}
-use Rattle.alg_model.specs.Eval.{Interpretation, match_of, bgp_rows, eval}
-use Rattle.alg_model.specs.Solution.{BindsJust, Makes, IsSolution, TellsValues, TellsTriples}
-use Rattle.alg_model.proofs.BasicPatterns.{looks_makes, rows_of_match, basic-exactly, basic-once}
-use Rattle.alg_model.proofs.Cells.{cases_Option, value_from_IsSome, IsSome-from_value, IsUnion, compatible_from, same_rows, union_from_merged}
+use Rattle.alg_model.specs.Eval.{Interpretation, match_of, eval}
+use Rattle.alg_model.specs.Solution.{Makes, IsSolution, TellsValues}
+use Rattle.alg_model.proofs.BasicPatterns.{looks_makes, rows_of_match, basic-exactly}
+use Rattle.alg_model.proofs.Cells.{cases_Option, value_from_IsSome, IsSome-from_value, IsUnion, compatible_from, union_from_merged}
 use Rattle.alg_model.proofs.Joins.{join-Contains, Contains-join, cut, width-cut, cut_binds, cut_inside}
 use Rattle.alg_model.proofs.Lists.{filter_as_flat_map, Contains-flat_map, source-flat_map, option-Contains}
 use Rattle.alg_model.proofs.VarSets.{All-left, All-right}
@@ -21,7 +21,7 @@ use Rattle.alg_model.proofs.Width.{HasWidth}
 use Rattle.pattern_tree.specs.Tree.{root_patterns}
 use Rattle.pattern_tree.specs.Solution.{Family, all_matches, IsSolutionOf}
 use Rattle.pattern_tree.proofs.Choices.{list_vars, IsBothOf, IsChoice, choice_inside, choice_root, IsFineBeside, fine-join_left, fine-join_right, fine-left_join_left, fine-left_join_right, ShareRoots, sides_share}
-use Rattle.pattern_tree.proofs.Unions.{IsMade, solution-union, IsCut, solution-cut, Extends-refl, Extends-trans, Extends-both, Extends-union}
+use Rattle.pattern_tree.proofs.Unions.{solution-union, solution-cut, Extends-refl, Extends-trans, Extends-union}
 
 -- ---- filters
 

@@ -1,7 +1,10 @@
 pub mod Choices
 pub mod Distinct
 pub mod Evaluation
+pub mod Examples
+pub mod Growth
 pub mod Nodes
 pub mod PatternTrees
 pub mod RootedSets
+pub mod TreeSizes
 pub mod Unions

@@ -1,21 +1,21 @@
 -- The laws of partial solutions and the pattern-tree law.
-use Rattle.std.proofs.Common.{◌≡◌, ◌≢◌, ◌↔◌, ◌⊎◌, ℕ, ◌<◌, ◌++◌, inl, inr, Bool, true, false, not, List, [], ◌∷◌, get_or, All, AllPairs, Any, Contains, Option, Some, None, IsTrue, IsSome, refl, sym, ◌∙◌, ap, subst}
+use Rattle.std.proofs.Common.{◌≡◌, ◌≢◌, ◌↔◌, ◌⊎◌, ℕ, ◌<◌, ◌++◌, inl, inr, List, get_or, AllPairs, Any, Contains, Option, Some, None, refl, ◌∙◌, ap, subst}
 use Rattle.std.proofs.lemmas.List.Elements.{All-contains, Contains-get_or, Contains-append_left, Contains-append_right, Contains-append_cases}
 use Rattle.alg_model.specs.declared.pattern.TriplePat.{TriplePat}
-use Rattle.alg_model.specs.Row.{Row, binding, Extends, BindsMore, merged, join, without_partner}
+use Rattle.alg_model.specs.Row.{Row, binding, Extends, BindsMore, join, without_partner}
 use Rattle.alg_model.specs.Pattern.{Algebra, Bgp, Join, LeftJoin, HasVarsBelow, triple_vars, vars_of}
 use Rattle.alg_model.specs.Eval.{Interpretation, eval}
-use Rattle.alg_model.specs.Solution.{BindsJust, Makes, IsSolution, TellsValues, TellsTriples}
+use Rattle.alg_model.specs.Solution.{Makes, IsSolution, TellsValues, TellsTriples}
 use Rattle.alg_model.proofs.Cells.{value_from_IsSome, IsSome-from_value, union_from_merged, merged_from_union}
 use Rattle.alg_model.proofs.Joins.{join-Contains, Contains-join}
 use Rattle.alg_model.proofs.Lists.{Contains-flat_map, source-flat_map}
 use Rattle.alg_model.proofs.VarSets.{All-left, All-right}
 use Rattle.pattern_tree.specs.Parts.{IsMergeOf, IsAlone}
-use Rattle.pattern_tree.specs.Solution.{Family, all_matches, IsSolutionOf, IsPartialSolution, IsPartialRow, IsMaximalRow}
+use Rattle.pattern_tree.specs.Solution.{Family, all_matches, IsSolutionOf, IsPartialRow, IsMaximalRow}
 use Rattle.pattern_tree.specs.Tree.{tree_of, patterns_of}
-use Rattle.pattern_tree.proofs.Choices.{list_vars, IsBothOf, IsChoice, IsFineBeside, fine-join_left, fine-join_right, fine-left_join_left, fine-left_join_right}
+use Rattle.pattern_tree.proofs.Choices.{IsBothOf, IsChoice, IsFineBeside, fine-join_left, fine-join_right, fine-left_join_left, fine-left_join_right}
 use Rattle.pattern_tree.proofs.Unions.{solution-union, solution-cut, Extends-trans, Extends-both}
-use Rattle.pattern_tree.proofs.Evaluation.{rows, IsPartial, row_is_partial, partial_is_covered, basic-to, basic-from, has_partner, alone_left, not_alone, partner_or_alone, merge_of}
+use Rattle.pattern_tree.proofs.Evaluation.{IsPartial, row_is_partial, partial_is_covered, basic-to, basic-from, alone_left, not_alone, partner_or_alone, merge_of}
 use Rattle.pattern_tree.proofs.Distinct.{no_row_extends_another, rows_once}
 use Rattle.pattern_tree.proofs.RootedSets.{HasSame, choice_from_set, set_from_choice}
 

@@ -1,14 +1,13 @@
 -- The triple patterns of a rooted set of nodes are a choice, up to their order and how often they stand there; and each
 -- choice is that of a rooted set.
-use Rattle.std.proofs.Common.{◌≡◌, ◌≢◌, ◌↔◌, ◌⊎◌, ℕ, zero, suc, ◌+◌, ◌<◌, ◌≤◌, ◌++◌, inl, inr, Bool, true, false, if◌then◌else◌, List, [], ◌∷◌, length, map, Option, Some, None, Contains, IsTrue, refl, sym, ◌∙◌, ap, subst, arith, append-nil, append_assoc}
+use Rattle.std.proofs.Common.{◌≡◌, ℕ, zero, suc, ◌+◌, ◌<◌, ◌≤◌, ◌++◌, inl, inr, Bool, true, false, if◌then◌else◌, List, [], ◌∷◌, length, map, Option, Some, None, Contains, IsTrue, refl, sym, ◌∙◌, ap, subst, arith, append-nil, append_assoc}
 use Rattle.std.specs.Prelude.{slice_get}
-use Rattle.std.proofs.lemmas.List.{length-map}
 use Rattle.std.proofs.lemmas.List.Elements.{Contains-append_left, Contains-append_right, Contains-append_cases}
 use Rattle.alg_model.specs.declared.pattern.TriplePat.{TriplePat}
 use Rattle.alg_model.specs.Pattern.{Algebra, Bgp, Join, LeftJoin}
 use Rattle.pattern_tree.specs.Tree.{TreeNode, root_patterns, moved_parent, moved_option, moved, hung_parent, hung, nodes_below, tree_of, IsRooted, patterns_of}
-use Rattle.pattern_tree.proofs.Choices.{IsBothOf, IsChoice}
-use Rattle.pattern_tree.proofs.Nodes.{at_front, at_back, at_either, at_map, from_map, HasParent, below-HasParent, patterns_of-same, patterns_of-none, patterns_of-append, patterns_of-moved, patterns_of-hung, mixed, mixed-front, mixed-back}
+use Rattle.pattern_tree.proofs.Choices.{IsChoice}
+use Rattle.pattern_tree.proofs.Nodes.{at_front, at_back, at_either, at_map, from_map, below-HasParent, patterns_of-same, patterns_of-none, patterns_of-append, patterns_of-moved, patterns_of-hung, mixed, mixed-front, mixed-back}
 
 -- ---- lists with the same items
 

@@ -1,13 +1,13 @@
 -- A row that solves two lists of triple patterns is the union of two rows, each of which solves one of them.
-use Rattle.std.proofs.Common.{◌≡◌, ◌↔◌, ◌⊎◌, ℕ, ◌++◌, inl, inr, List, get_or, All, Any, Contains, Some, None, IsTrue, refl, sym, ◌∙◌, subst, arith}
-use Rattle.std.proofs.lemmas.List.Elements.{All-append, All-contains, Contains-get_or, Contains-append_left, Contains-append_right, Contains-append_cases}
+use Rattle.std.proofs.Common.{◌≡◌, ℕ, ◌++◌, inl, inr, List, get_or, All, Any, Contains, Some, sym, ◌∙◌, subst}
+use Rattle.std.proofs.lemmas.List.Elements.{All-append, Contains-get_or, Contains-append_left, Contains-append_right, Contains-append_cases}
 use Rattle.alg_model.specs.declared.pattern.TriplePat.{TriplePat}
 use Rattle.alg_model.specs.Row.{Row, binding, Extends}
 use Rattle.alg_model.specs.Pattern.{triple_vars}
 use Rattle.alg_model.specs.Eval.{Interpretation}
 use Rattle.alg_model.specs.Solution.{BindsJust, Makes, TellsValues}
 use Rattle.alg_model.proofs.BasicPatterns.{looks_makes}
-use Rattle.alg_model.proofs.Cells.{value_from_IsSome, IsSome-from_value, cases_Option, IsUnion, same_rows}
+use Rattle.alg_model.proofs.Cells.{cases_Option, IsUnion, same_rows}
 use Rattle.alg_model.proofs.Joins.{unbound_elsewhere, union_binds, agrees, cut, width-cut, cut_binds, cut_inside, cut_value}
 use Rattle.alg_model.proofs.Lists.{Contains-flat_map}
 use Rattle.alg_model.proofs.VarSets.{All-left, All-right}

@@ -1,3 +1,5 @@
+pub mod Growing
 pub mod Parts
+pub mod PatternTree
 pub mod Solution
 pub mod Tree

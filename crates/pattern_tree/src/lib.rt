@@ -1,6 +1,11 @@
 //! The tree of a well-designed pattern, its partial solutions, and the law that evaluation gives exactly the maximal ones.
+//! `tree_of` makes the tree, and `Tree` shows its nodes.
 #![tactic(auto)]
 
 mod laws;
+mod node;
+mod tree;
 
 pub use laws::{maximal_solution_law, partial_solution_law, pattern_tree_law, shared_variable_law};
+pub use node::PatRefs;
+pub use tree::{Tree, tree_of};

@@ -1,4 +1,4 @@
--- Runs of the push parser over what a symbol of the grammar spells, from the right: where what is behind the symbol
+-- Runs of the push parser over what a symbol of the grammar spells, from the right: where what is after the symbol
 -- is read to the end of a query, so is what is before it.
 use Rattle.std.proofs.Common.{◌≡◌, ℕ, ◌⊎◌, inl, inr, List, [], ◌∷◌, Option, Some, sym, ◌∙◌, ap, subst}
 use Rattle.query_tokens.specs.Token.{Lexeme}
@@ -38,9 +38,9 @@ pub record At (state : State) (left : Remainder) (ls : List Labelled) : Type 0 w
   pub reads : Reads ended state ls
   pub grown : remainder_of ls ≡ left
 
--- where the second holds of what is left behind what the symbol spells, the first holds before it
-pub record Carries (symbol : Spelling) (before behind : List Labelled → Type 0) : Type 0 where
-  pub carry : (from to : List Labelled) → symbol from to → behind to → before from
+-- where the second holds of what is left after what the symbol spells, the first holds before it
+pub record Carries (symbol : Spelling) (before after : List Labelled → Type 0) : Type 0 where
+  pub carry : (from to : List Labelled) → symbol from to → after to → before from
 
 pub c-then : {A B : Spelling} {P Q R : List Labelled → Type 0} → Carries A P Q → Carries B Q R → Carries (A ▸ B) P R
 c-then first second = record { carry = λ from to (middle, a, b) holds. first.carry from middle a (second.carry middle to b holds) }
@@ -54,8 +54,8 @@ c-or first second = record {
 pub c-before : {A : Spelling} {P Q R : List Labelled → Type 0} → ((ls : List Labelled) → P ls → R ls) → Carries A P Q → Carries A R Q
 c-before change carries = record { carry = λ from to a holds. change from (carries.carry from to a holds) }
 
-pub c-behind : {A : Spelling} {P Q R : List Labelled → Type 0} → ((ls : List Labelled) → R ls → Q ls) → Carries A P Q → Carries A P R
-c-behind change carries = record { carry = λ from to a holds. carries.carry from to a (change to holds) }
+pub c-after : {A : Spelling} {P Q R : List Labelled → Type 0} → ((ls : List Labelled) → R ls → Q ls) → Carries A P Q → Carries A P R
+c-after change carries = record { carry = λ from to a holds. carries.carry from to a (change to holds) }
 
 pub c-nothing : {P Q : List Labelled → Type 0} → ((ls : List Labelled) → Q ls → P ls) → Carries Nothing P Q
 c-nothing {P} {Q} change = record { carry = λ from to e holds. subst P (sym e) (change to holds) }
@@ -85,9 +85,9 @@ token-grown role terminal token left ls e grown =
 token-at : (rule : Terminal → Option Step) (terminal : Terminal) (role : Role) (token : Lexeme) (next : State) (left : Remainder) →
     rule terminal ≡ Some (step_of next role) →
     (from to : List Labelled) → Token terminal role token from to → At next left to → On rule (grow role terminal token left) from
-token-at rule terminal role token next left is from to (e, split) behind =
+token-at rule terminal role token next left is from to (e, split) after =
     let on : On rule (grow role terminal token left) (with_role role token ∷ to) =
-    record { reads = (next, ap rule e ∙ is, behind.reads); grown = token-grown role terminal token left to e behind.grown } in
+    record { reads = (next, ap rule e ∙ is, after.reads); grown = token-grown role terminal token left to e after.grown } in
     subst (λ ls. On rule (grow role terminal token left) ls) (sym split) on
 
 -- one token
@@ -98,7 +98,7 @@ c-token-at rule terminal role token next left is = record { carry = token-at rul
 pub c-token : (rule : Terminal → Option Step) (terminal : Terminal) (role : Role) (token : Lexeme) (expect : Expect) (n : ℕ) (left : Remainder) →
     rule terminal ≡ reads role expect n → Carries (Token terminal role token) (On rule (grow role terminal token left)) (On (step_at expect n) left)
 c-token rule terminal role token expect n left is =
-    c-behind (at_state expect n left) (c-token-at rule terminal role token (state_of expect n) left is)
+    c-after (at_state expect n left) (c-token-at rule terminal role token (state_of expect n) left is)
 
 pub c-some : {P Q : List Labelled → Type 0} (terminal : Terminal) (role : Role) → ((token : Lexeme) → Carries (Token terminal role token) P Q) → Carries (SomeToken terminal role) P Q
 c-some terminal role each = record { carry = λ from to (token, is) holds. (each token).carry from to is holds }

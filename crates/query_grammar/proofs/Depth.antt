@@ -8,7 +8,7 @@ use Rattle.query_grammar.specs.declared.expect.Expect.TheVariants as expects
 use Rattle.query_grammar.specs.declared.expect.State.{State}
 use Rattle.query_grammar.specs.Terminals.{terminal_of}
 use Rattle.query_grammar.specs.Roles.{Labelled, is_open, is_close, count_of, open_groups}
-use Rattle.query_grammar.specs.Expecting.{start, closed, step_at, next_step, Reading, read_tokens}
+use Rattle.query_grammar.specs.Expecting.{start, closed, step_at, next_step, Progress, read_tokens}
 use Rattle.query_grammar.proofs.Carrying.{Reads}
 use Rattle.query_grammar.proofs.Counts.{one_if, count-cons}
 use Rattle.query_grammar.proofs.Following.{OnStep, on-step}
@@ -97,14 +97,14 @@ reads-counts (l ∷ ls) last state placed (next, is, rest) =
     let here = on-step (step_at state.expect state.groups (terminal_of l.token))
     (λ step. IsPlaced state.expect state.groups → IsPlaced step.state.expect step.state.groups × (step.state.groups + one_if (is_close step.role) ≡ state.groups + one_if (is_open step.role)))
     (record { state = next; role = l.role }) is (counts state.expect state.groups (terminal_of l.token)) placed in
-    let behind : last.groups + count_of is_close ls ≡ next.groups + count_of is_open ls = reads-counts ls last next here.0 rest in
+    let after : last.groups + count_of is_close ls ≡ next.groups + count_of is_open ls = reads-counts ls last next here.0 rest in
     let counted : next.groups + one_if (is_close l.role) ≡ state.groups + one_if (is_open l.role) = here.1 in
     let closes = count-cons is_close l ls in
     let opens = count-cons is_open l ls in
     omega arith
 
 -- the groups of a state are those that the run opened and did not close
-pub groups-open_groups : (tokens : List Lexeme) (reading : Reading) → read_tokens start tokens ≡ Some reading → reading.state.groups ≡ open_groups reading.labelled
+pub groups-open_groups : (tokens : List Lexeme) (reading : Progress) → read_tokens start tokens ≡ Some reading → reading.state.groups ≡ open_groups reading.labelled
 groups-open_groups tokens reading read =
     let counted = reads-counts reading.labelled reading.state start tt (run-reads tokens start reading read).reads in
     omega arith

@@ -74,7 +74,7 @@ ending expects.AfterObject n = group_end n
 ending expects.AfterSemicolon n = group_end n
 ending expects.End n = []
 
--- behind the last token no group is open
+-- after the last token no group is open
 abbrev pub IsClosed : Expect → ℕ → Type 0
 IsClosed expects.End n = n ≡ 0
 IsClosed _ n = Unit {0}
@@ -194,6 +194,6 @@ ending-reads expects.AfterObject n is = after_object-ends n
 ending-reads expects.AfterSemicolon n is = after_semicolon-ends n
 ending-reads expects.End n is = ap (λ m. state_of expects.End m) is
 
--- behind what was read from the start, some tokens end a query
+-- after what was read from the start, some tokens end a query
 pub state-ends : (ls : List Labelled) (last : State) → Reads last start ls → (more : List Labelled) × Reads ended last more
 state-ends ls last reads = (ending last.expect last.groups, ending-reads last.expect last.groups (reads-IsClosed ls last start tt reads))

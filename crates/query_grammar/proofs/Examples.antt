@@ -7,7 +7,7 @@ use Rattle.query_grammar.specs.declared.terminal.Terminal.TheVariants as termina
 use Rattle.query_grammar.specs.declared.syntax.Role.TheVariants as roles
 use Rattle.query_grammar.specs.Terminals.{terminal_of}
 use Rattle.query_grammar.specs.Roles.{Labelled, tokens_of, with_role}
-use Rattle.query_grammar.specs.Tree.{VariableNode, Same, NoParts, AllColumns, Syntax}
+use Rattle.query_grammar.specs.Tree.{VariableNode, Same, EndOfGroup, AllColumns, Syntax}
 use Rattle.query_grammar.specs.Grammar.{IsQuery, none}
 use Rattle.query_grammar.specs.declared.expect.Expect.TheVariants as expects
 use Rattle.query_grammar.specs.Expecting.{start, ended, state_of, next_step, read_tokens}
@@ -74,7 +74,7 @@ abbrev one_triple : Same
 one_triple = record { subject = VariableNode s; properties = record { verb = VariableNode p; objects = VariableNode o ∷ [] } ∷ [] }
 
 abbrev one_triple_tree : Syntax
-one_triple_tree = record { declarations = []; distinct = false; columns = AllColumns; group = record { block = one_triple ∷ []; parts = NoParts } }
+one_triple_tree = record { declarations = []; distinct = false; columns = AllColumns; group = record { block = one_triple ∷ []; elements = EndOfGroup } }
 
 abbrev one_triple_labelled : List Labelled
 one_triple_labelled =
@@ -128,7 +128,7 @@ one_triple_is_read : read_tokens start (tokens_of one_triple_labelled) ≡ Some 
 unfolding read_tokens next_step terminal_of
 one_triple_is_read = refl
 
--- without the last brace it stands behind an object, with one group open
+-- without the last brace it stands after an object, with one group open
 an_open_group : read_tokens start (select ∷ star ∷ brace ∷ s ∷ p ∷ o ∷ []) ≡
     Some (record {
       labelled =
@@ -144,7 +144,7 @@ a_brace_too_many : read_tokens start (tokens_of one_triple_labelled ++ end_brace
 unfolding read_tokens next_step terminal_of
 a_brace_too_many = refl
 
--- nor is a subject behind OPTIONAL
+-- nor is a subject after OPTIONAL
 optional_wants_a_group : read_tokens start (select ∷ star ∷ brace ∷ token kinds.Word (codes "OPTIONAL") ∷ s ∷ []) ≡ None
 unfolding read_tokens next_step terminal_of
 optional_wants_a_group = refl

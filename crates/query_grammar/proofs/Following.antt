@@ -9,21 +9,21 @@ use Rattle.query_grammar.specs.declared.expect.Expect.TheVariants as expects
 use Rattle.query_grammar.specs.declared.expect.Step.{Step}
 use Rattle.query_grammar.specs.Terminals.{terminal_of}
 use Rattle.query_grammar.specs.Roles.{Labelled, with_role}
-use Rattle.query_grammar.specs.Tree.{Property, Parts, NoParts, OptionalPart, NestedPart, Group, Declaration, Columns, AllColumns, Variables}
-use Rattle.query_grammar.specs.Grammar.{Spelling, ◌▸◌, Nothing, Never, Many, Maybe, Token, SomeToken, Keyword, IsIri, AreMoreObjects, AreObjects, IsProperty, AreMoreProperties, AreProperties, AreMoreSames, IsBlock, InBraces, AreParts, AreMoreVariables, AreColumns, IsDistinct, IsPrologue}
+use Rattle.query_grammar.specs.Tree.{Property, Elements, EndOfGroup, Element, OptionalGroup, NestedGroup, Group, Declaration, Columns, AllColumns, Variables}
+use Rattle.query_grammar.specs.Grammar.{Spelling, ◌▸◌, Nothing, Never, Many, Maybe, Token, SomeToken, Keyword, IsIri, AreMoreObjects, AreObjects, IsProperty, AreMoreProperties, AreProperties, AreMoreSames, IsBlock, InBraces, AreElements, AreMoreVariables, AreColumns, IsDistinct, IsPrologue}
 use Rattle.query_grammar.specs.Expecting.{step_at}
 use Rattle.query_grammar.proofs.Remainders.{Suffix, NoSuffix, TagSuffix, TypeSuffix, Remainder, group_of, grow}
 
--- behind the '}' of a group, round which n are open: what is left of each
+-- after the '}' of a group, round which n are open: what is left of each
 abbrev pub Outside : ℕ → List Group → Spelling
 Outside zero outer = Nothing
 Outside (suc n) [] = Never
 Outside (suc n) (group ∷ outer) =
-    Maybe (Keyword terminals.Stop) ▸ IsBlock group.block ▸ AreParts group.parts ▸ SomeToken terminals.Close roles.Close ▸ Outside n outer
+    Maybe (Keyword terminals.Stop) ▸ IsBlock group.block ▸ AreElements group.elements ▸ SomeToken terminals.Close roles.Close ▸ Outside n outer
 
--- behind a block, in a group round which n are open: the parts, the '}', and what is left of the groups round it
+-- after a block, in a group round which n are open: the elements, the '}', and what is left of the groups round it
 abbrev pub Rest : ℕ → Remainder → Spelling
-Rest n r = AreParts r.parts ▸ SomeToken terminals.Close roles.Close ▸ Outside n r.outer
+Rest n r = AreElements r.elements ▸ SomeToken terminals.Close roles.Close ▸ Outside n r.outer
 
 abbrev pub IsDatatype : Suffix → Spelling
 IsDatatype NoSuffix = Never
@@ -35,7 +35,7 @@ IsSuffix NoSuffix = Nothing
 IsSuffix (TagSuffix tag) = Token terminals.Tag roles.Tag tag
 IsSuffix (TypeSuffix iri) = Keyword terminals.Carets ▸ IsIri roles.Datatype iri
 
--- behind a semicolon
+-- after a semicolon
 abbrev pub AfterSemicolon : List Property → Spelling
 AfterSemicolon [] = Many (Keyword terminals.Semicolon)
 AfterSemicolon (property ∷ properties) = Many (Keyword terminals.Semicolon) ▸ IsProperty property ▸ AreMoreProperties properties
@@ -46,14 +46,14 @@ AfterSubject n r = AreProperties r.properties ▸ AreMoreSames r.block ▸ Rest 
 abbrev pub AfterObjects : ℕ → Remainder → Spelling
 AfterObjects n r = AreMoreProperties r.properties ▸ AreMoreSames r.block ▸ Rest n r
 
--- a group as the first of the parts that are left
-abbrev pub NestedFirst : Parts → ℕ → List Group → Spelling
-NestedFirst NoParts n outer = Never
-NestedFirst (OptionalPart block parts next rest) n outer = Never
-NestedFirst (NestedPart block parts next rest) n outer = InBraces (IsBlock block ▸ AreParts parts) ▸ Outside n (group_of next rest ∷ outer)
+-- a group as the first of the elements that are left
+abbrev pub NestedFirst : Elements → ℕ → List Group → Spelling
+NestedFirst EndOfGroup n outer = Never
+NestedFirst (Element OptionalGroup block elements next rest) n outer = Never
+NestedFirst (Element NestedGroup block elements next rest) n outer = InBraces (IsBlock block ▸ AreElements elements) ▸ Outside n (group_of next rest ∷ outer)
 
 abbrev pub WhereOrGroup : ℕ → Remainder → Spelling
-WhereOrGroup n r = Maybe (Keyword terminals.WhereWord) ▸ NestedFirst r.parts n r.outer
+WhereOrGroup n r = Maybe (Keyword terminals.WhereWord) ▸ NestedFirst r.elements n r.outer
 
 abbrev pub MoreColumns : Columns → Spelling
 MoreColumns AllColumns = Never
@@ -92,7 +92,7 @@ Follows expects.Projection n r ls = Projection n r ls []
 Follows expects.Columns n r ls = Selection n r ls []
 Follows expects.MoreColumns n r ls = (MoreColumns r.head.columns ▸ WhereOrGroup n r) ls []
 Follows expects.WhereOrGroup n r ls = WhereOrGroup n r ls []
-Follows expects.Group n r ls = NestedFirst r.parts n r.outer ls []
+Follows expects.Group n r ls = NestedFirst r.elements n r.outer ls []
 Follows expects.Block n r ls = InGroup (λ n. IsBlock r.block ▸ Rest n r) n ls
 Follows expects.AfterElement n r ls = InGroup (λ n. Maybe (Keyword terminals.Stop) ▸ IsBlock r.block ▸ Rest n r) n ls
 Follows expects.AfterSubjectString n r ls = InGroup (λ n. IsSuffix r.suffix ▸ AfterSubject n r) n ls

@@ -10,7 +10,7 @@ use Rattle.query_grammar.specs.Terminals.{terminal_of}
 use Rattle.query_grammar.specs.Roles.{Labelled, tokens_of}
 use Rattle.query_grammar.specs.Tree.{Syntax}
 use Rattle.query_grammar.specs.Grammar.{IsQuery, Begins, AreQuery, HasFaultAt}
-use Rattle.query_grammar.specs.Expecting.{start, ended, next_step, Reading, read_before, read_tokens, IsReadToEnd, StopsAt}
+use Rattle.query_grammar.specs.Expecting.{start, ended, next_step, Progress, read_before, read_tokens, IsReadToEnd, StopsAt}
 use Rattle.query_grammar.proofs.Remainders.{tree_left, remainder_of}
 use Rattle.query_grammar.proofs.Carrying.{Reads}
 use Rattle.query_grammar.proofs.Productions.{query-reads, query-tree}
@@ -40,28 +40,28 @@ pub one-labelling : (t1 t2 : Syntax) (l1 l2 : List Labelled) → IsQuery t1 l1 �
 one-labelling t1 t2 l1 l2 q1 q2 same =
     let both : Some (reading_of l1 ended) ≡ Some (reading_of l2 ended) = sym (query-run t1 l1 q1) ∙ ap (read_tokens start) same ∙ query-run t2 l2 q2 in
     let e : reading_of l1 ended ≡ reading_of l2 ended = cc in
-    ap (λ (r : Reading). r.labelled) e
+    ap (λ (r : Progress). r.labelled) e
 
 pub one-tree : (t1 t2 : Syntax) (l1 l2 : List Labelled) → IsQuery t1 l1 → IsQuery t2 l2 → tokens_of l1 ≡ tokens_of l2 → t1 ≡ t2
 one-tree t1 t2 l1 l2 q1 q2 same =
     sym (query-tree t1 l1 q1) ∙ ap (λ l. tree_left (remainder_of l)) (one-labelling t1 t2 l1 l2 q1 q2 same) ∙ query-tree t2 l2 q2
 
 -- tokens that begin a query are read
-pub Begins-read : (tokens : List Lexeme) → Begins tokens → (reading : Reading) × (read_tokens start tokens ≡ Some reading)
+pub Begins-read : (tokens : List Lexeme) → Begins tokens → (reading : Progress) × (read_tokens start tokens ≡ Some reading)
 Begins-read tokens begins =
     read-front tokens begins.more start (reading_of begins.labelled ended)
     (ap (read_tokens start) (sym begins.tokens_are) ∙ query-run begins.tree begins.labelled begins.is_query)
 
 -- the front of a query is read in its roles
-pub front-run : (tree : Syntax) (labelled behind : List Labelled) → IsQuery tree (labelled ++ behind) →
+pub front-run : (tree : Syntax) (labelled after : List Labelled) → IsQuery tree (labelled ++ after) →
     (state : State) × (read_tokens start (tokens_of labelled) ≡ Some (reading_of labelled state))
-front-run tree labelled behind query =
-    let split = reads-split labelled behind ended start (query-reads tree (labelled ++ behind) query) in
+front-run tree labelled after query =
+    let split = reads-split labelled after ended start (query-reads tree (labelled ++ after) query) in
     (split.0, reads-run labelled split.0 start split.1)
 
 -- what is read in some roles is the front of a query in these roles
-pub read-front_of_query : (tokens : List Lexeme) (reading : Reading) → read_tokens start tokens ≡ Some reading →
-    (behind : List Labelled) × (tree : Syntax) × IsQuery tree (reading.labelled ++ behind)
+pub read-front_of_query : (tokens : List Lexeme) (reading : Progress) → read_tokens start tokens ≡ Some reading →
+    (after : List Labelled) × (tree : Syntax) × IsQuery tree (reading.labelled ++ after)
 read-front_of_query tokens reading read =
     let run = run-reads tokens start reading read in
     let rest = state-ends reading.labelled reading.state run.reads in
@@ -69,7 +69,7 @@ read-front_of_query tokens reading read =
     (rest.0, tree_left (remainder_of (reading.labelled ++ rest.0)), reads-query (reading.labelled ++ rest.0) all)
 
 -- tokens that are read begin a query
-pub read-Begins : (tokens : List Lexeme) (reading : Reading) → read_tokens start tokens ≡ Some reading → Begins tokens
+pub read-Begins : (tokens : List Lexeme) (reading : Progress) → read_tokens start tokens ≡ Some reading → Begins tokens
 read-Begins tokens reading read =
     let run = run-reads tokens start reading read in
     let rest = state-ends reading.labelled reading.state run.reads in
@@ -85,7 +85,7 @@ read-Begins tokens reading read =
     }
 
 -- tokens that are read, and at whose end nothing more is expected, are a query
-pub read-AreQuery : (tokens : List Lexeme) (reading : Reading) → read_tokens start tokens ≡ Some reading → reading.state.expect ≡ expects.End → AreQuery tokens
+pub read-AreQuery : (tokens : List Lexeme) (reading : Progress) → read_tokens start tokens ≡ Some reading → reading.state.expect ≡ expects.End → AreQuery tokens
 read-AreQuery tokens reading read at_end =
     let run = run-reads tokens start reading read in
     let query = ended-query reading.labelled reading.state run.reads at_end in
@@ -100,14 +100,14 @@ AreQuery-read tokens query =
 pub none-Begins : (tokens : List Lexeme) → read_tokens start tokens ≡ None → ¬ Begins tokens
 none-Begins tokens none begins = let e : None ≡ Some (Begins-read tokens begins).0 = sym none ∙ (Begins-read tokens begins).1 in cc
 
-unread-none : (tokens : List Lexeme) (result : Option Reading) → read_tokens start tokens ≡ result → ¬ Begins tokens → read_tokens start tokens ≡ None
+unread-none : (tokens : List Lexeme) (result : Option Progress) → read_tokens start tokens ≡ result → ¬ Begins tokens → read_tokens start tokens ≡ None
 unread-none tokens None is not_begun = is
 unread-none tokens (Some reading) is not_begun = absurd (not_begun (read-Begins tokens reading is))
 
 pub not_begun-none : (tokens : List Lexeme) → ¬ Begins tokens → read_tokens start tokens ≡ None
 not_begun-none tokens not_begun = unread-none tokens (read_tokens start tokens) refl not_begun
 
-pub next_none-not_begun : (tokens : List Lexeme) (token : Lexeme) (reading : Reading) → read_tokens start tokens ≡ Some reading →
+pub next_none-not_begun : (tokens : List Lexeme) (token : Lexeme) (reading : Progress) → read_tokens start tokens ≡ Some reading →
     next_step reading.state (terminal_of token) ≡ None → ¬ Begins (tokens ++ token ∷ [])
 next_none-not_begun tokens token reading read is = none-Begins (tokens ++ token ∷ []) (read-last-none tokens token start reading read is)
 
@@ -127,9 +127,9 @@ HasFaultAt-StopsAt tokens i has =
       ];
     }
 
-ended-expect : (labelled : List Labelled) (reading : Reading) (result : Option Reading) → result ≡ Some reading → result ≡ Some (reading_of labelled ended) → reading.state.expect ≡ expects.End
+ended-expect : (labelled : List Labelled) (reading : Progress) (result : Option Progress) → result ≡ Some reading → result ≡ Some (reading_of labelled ended) → reading.state.expect ≡ expects.End
 ended-expect labelled reading result a b =
-    let e : reading ≡ reading_of labelled ended = cc in ap (λ (r : Reading). r.state.expect) e
+    let e : reading ≡ reading_of labelled ended = cc in ap (λ (r : Progress). r.state.expect) e
 
 pub StopsAt-HasFaultAt : (tokens : List Lexeme) (i : ℕ) → StopsAt tokens i → HasFaultAt tokens i
 StopsAt-HasFaultAt tokens i stop =
@@ -206,14 +206,14 @@ query-no_fault tokens i query has = elim has.fault [
 
 -- the first token that is not read from a state on, if there is one
 data FirstUnread (state : State) (tokens : List Lexeme) : Type 0 where
-  all_read : (reading : Reading) → read_tokens state tokens ≡ Some reading → FirstUnread state tokens
-  unread : (i : ℕ) (reading : Reading) → i < length tokens → read_tokens state (take i tokens) ≡ Some reading → read_tokens state (take (suc i) tokens) ≡ None → FirstUnread state tokens
+  all_read : (reading : Progress) → read_tokens state tokens ≡ Some reading → FirstUnread state tokens
+  unread : (i : ℕ) (reading : Progress) → i < length tokens → read_tokens state (take i tokens) ≡ Some reading → read_tokens state (take (suc i) tokens) ≡ None → FirstUnread state tokens
 
-unread-behind : (state : State) (token : Lexeme) (tokens : List Lexeme) (step : Step) → next_step state (terminal_of token) ≡ Some step →
+unread-after : (state : State) (token : Lexeme) (tokens : List Lexeme) (step : Step) → next_step state (terminal_of token) ≡ Some step →
     FirstUnread step.state tokens → FirstUnread state (token ∷ tokens)
-unread-behind state token tokens step is (all_read reading read) =
+unread-after state token tokens step is (all_read reading read) =
     all_read (read_before step.role token reading) (read-step state token tokens step reading is read)
-unread-behind state token tokens step is (unread i reading below read none) =
+unread-after state token tokens step is (unread i reading below read none) =
     unread (suc i) (read_before step.role token reading) (let lt : suc i < suc (length tokens) = omega arith in lt)
     (read-step state token (take i tokens) step reading is read) (read-step-none state token (take (suc i) tokens) step is none)
 
@@ -221,7 +221,7 @@ first-unread-step : (state : State) (token : Lexeme) (tokens : List Lexeme) (ste
     ((next : State) → FirstUnread next tokens) → FirstUnread state (token ∷ tokens)
 first-unread-step state token tokens None is rest =
     unread 0 (reading_of [] state) (let lt : 0 < suc (length tokens) = omega arith in lt) (read-nothing state) (read-none state token [] is)
-first-unread-step state token tokens (Some step) is rest = unread-behind state token tokens step is (rest step.state)
+first-unread-step state token tokens (Some step) is rest = unread-after state token tokens step is (rest step.state)
 
 first-unread : (tokens : List Lexeme) (state : State) → FirstUnread state tokens
 first-unread [] state = all_read (reading_of [] state) (read-nothing state)

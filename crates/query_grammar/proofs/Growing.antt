@@ -12,8 +12,8 @@ use Rattle.query_grammar.specs.declared.expect.State.{State}
 use Rattle.query_grammar.specs.declared.expect.Step.{Step}
 use Rattle.query_grammar.specs.Terminals.{terminal_of}
 use Rattle.query_grammar.specs.Roles.{Labelled, with_role}
-use Rattle.query_grammar.specs.Tree.{Node, VariableNode, IriNode, NumberNode, BooleanNode, TypeNode, Property, Same, Parts, NoParts, OptionalPart, NestedPart, Group, Declaration, Columns, AllColumns, Variables}
-use Rattle.query_grammar.specs.Grammar.{◌▸◌, none, more, Maybe, SomeToken, Keyword, IsNode, IsVerb, AreMoreObjects, AreObjects, AreMoreProperties, AreProperties, AreMoreSames, IsBlock, InBraces, AreParts, IsGroup, AreColumns, IsDistinct, IsPrologue, IsQuery}
+use Rattle.query_grammar.specs.Tree.{Node, VariableNode, IriNode, NumberNode, BooleanNode, TypeNode, Property, Same, Elements, EndOfGroup, Element, OptionalGroup, NestedGroup, Group, Declaration, Columns, AllColumns, Variables}
+use Rattle.query_grammar.specs.Grammar.{◌▸◌, none, more, Maybe, SomeToken, Keyword, IsNode, IsVerb, AreMoreObjects, AreObjects, AreMoreProperties, AreProperties, AreMoreSames, IsBlock, InBraces, AreElements, IsGroup, AreColumns, IsDistinct, IsPrologue, IsQuery}
 use Rattle.query_grammar.specs.Expecting.{step_at, next_step, outside, start, ended}
 use Rattle.query_grammar.proofs.Remainders.{main_group, with_column, with_declaration, open_group, as_optional, Suffix, NoSuffix, TagSuffix, TypeSuffix, Remainder, group_of, property_of, same_of, string_node, nothing_left, grow, remainder_of, tree_left}
 use Rattle.query_grammar.proofs.Carrying.{Reads}
@@ -27,44 +27,44 @@ string-node role token (TypeSuffix iri) ls to is spelled = (ls, (is, refl), spel
 
 -- the three tokens of elements
 optional-rest : (n : ℕ) (token : Lexeme) (r : Remainder) (ls : List Labelled) → Front terminals.OptionalWord token →
-    NestedFirst r.parts (suc n) r.outer ls [] → Rest n (grow roles.Optional terminals.OptionalWord token r) (with_role roles.Optional token ∷ ls) []
-optional-rest n token r ls is nested = of_parts r.parts nested where
-  of_parts : (parts : Parts) → NestedFirst parts (suc n) r.outer ls [] → (AreParts (as_optional parts) ▸ SomeToken terminals.Close roles.Close ▸ Outside n r.outer) (with_role roles.Optional token ∷ ls) []
-  of_parts NoParts nested = absurd nested
-  of_parts (OptionalPart block parts next rest) nested = absurd nested
-  of_parts (NestedPart block parts next rest) (m1, braces, (m2, stop, (m3, spelled, (m4, parts_spelled, closing)))) =
-      (m4, (ls, (token, (is, refl)), (m1, braces, (m2, stop, (m3, spelled, parts_spelled)))), closing)
+    NestedFirst r.elements (suc n) r.outer ls [] → Rest n (grow roles.Optional terminals.OptionalWord token r) (with_role roles.Optional token ∷ ls) []
+optional-rest n token r ls is nested = of_parts r.elements nested where
+  of_parts : (elements : Elements) → NestedFirst elements (suc n) r.outer ls [] → (AreElements (as_optional elements) ▸ SomeToken terminals.Close roles.Close ▸ Outside n r.outer) (with_role roles.Optional token ∷ ls) []
+  of_parts EndOfGroup nested = absurd nested
+  of_parts (Element OptionalGroup block elements next rest) nested = absurd nested
+  of_parts (Element NestedGroup block elements next rest) (m1, braces, (m2, stop, (m3, spelled, (m4, elements_spelled, closing)))) =
+      (m4, (ls, (token, (is, refl)), (m1, braces, (m2, stop, (m3, spelled, elements_spelled)))), closing)
 
--- a group that is the first of the parts, and what follows it
-nested-parts : (parts : Parts) (n : ℕ) (outer : List Group) (all : List Labelled) → NestedFirst parts (suc n) outer all [] →
-    (AreParts parts ▸ SomeToken terminals.Close roles.Close ▸ Outside n outer) all []
-nested-parts NoParts n outer all nested = absurd nested
-nested-parts (OptionalPart block parts next rest) n outer all nested = absurd nested
-nested-parts (NestedPart block parts next rest) n outer all (m1, braces, (m2, stop, (m3, spelled, (m4, parts_spelled, closing)))) =
-    (m4, (m1, braces, (m2, stop, (m3, spelled, parts_spelled))), closing)
+-- a group that is the first of the elements, and what follows it
+nested-elements : (elements : Elements) (n : ℕ) (outer : List Group) (all : List Labelled) → NestedFirst elements (suc n) outer all [] →
+    (AreElements elements ▸ SomeToken terminals.Close roles.Close ▸ Outside n outer) all []
+nested-elements EndOfGroup n outer all nested = absurd nested
+nested-elements (Element OptionalGroup block elements next rest) n outer all nested = absurd nested
+nested-elements (Element NestedGroup block elements next rest) n outer all (m1, braces, (m2, stop, (m3, spelled, (m4, elements_spelled, closing)))) =
+    (m4, (m1, braces, (m2, stop, (m3, spelled, elements_spelled))), closing)
 
-outside-none : (n : ℕ) (ls : List Labelled) → Outside n [] ls [] → Outside n (group_of [] NoParts ∷ []) ls []
+outside-none : (n : ℕ) (ls : List Labelled) → Outside n [] ls [] → Outside n (group_of [] EndOfGroup ∷ []) ls []
 outside-none zero ls e = e
 outside-none (suc n) ls never = absurd never
 
 open-outer : (n : ℕ) (token : Lexeme) (r : Remainder) (ls : List Labelled) → Front terminals.Open token → (outer : List Group) →
-    (IsBlock r.block ▸ AreParts r.parts ▸ SomeToken terminals.Close roles.Close ▸ Outside n outer) ls [] →
-    NestedFirst (open_group r outer).parts n (open_group r outer).outer (with_role roles.Open token ∷ ls) []
-open-outer n token r ls is [] (m1, block, (m2, parts, (m3, closed, out))) =
-    (m3, (ls, (token, (is, refl)), (m2, (m1, block, parts), closed)), outside-none n m3 out)
-open-outer n token r ls is (group ∷ outer) (m1, block, (m2, parts, (m3, closed, out))) =
-    (m3, (ls, (token, (is, refl)), (m2, (m1, block, parts), closed)), out)
+    (IsBlock r.block ▸ AreElements r.elements ▸ SomeToken terminals.Close roles.Close ▸ Outside n outer) ls [] →
+    NestedFirst (open_group r outer).elements n (open_group r outer).outer (with_role roles.Open token ∷ ls) []
+open-outer n token r ls is [] (m1, block, (m2, elements, (m3, closed, out))) =
+    (m3, (ls, (token, (is, refl)), (m2, (m1, block, elements), closed)), outside-none n m3 out)
+open-outer n token r ls is (group ∷ outer) (m1, block, (m2, elements, (m3, closed, out))) =
+    (m3, (ls, (token, (is, refl)), (m2, (m1, block, elements), closed)), out)
 
 open-group : (n : ℕ) (token : Lexeme) (r : Remainder) (ls : List Labelled) → Front terminals.Open token → (IsBlock r.block ▸ Rest n r) ls [] →
-    NestedFirst (open_group r r.outer).parts n (open_group r r.outer).outer (with_role roles.Open token ∷ ls) []
+    NestedFirst (open_group r r.outer).elements n (open_group r r.outer).outer (with_role roles.Open token ∷ ls) []
 open-group n token r ls is follows = open-outer n token r ls is r.outer follows
 
 open-rest : (n : ℕ) (token : Lexeme) (r : Remainder) (ls : List Labelled) → Front terminals.Open token → (IsBlock r.block ▸ Rest (suc n) r) ls [] →
     Rest n (grow roles.Open terminals.Open token r) (with_role roles.Open token ∷ ls) []
 open-rest n token r ls is follows =
-    nested-parts (open_group r r.outer).parts n (open_group r r.outer).outer (with_role roles.Open token ∷ ls) (open-group (suc n) token r ls is follows)
+    nested-elements (open_group r r.outer).elements n (open_group r r.outer).outer (with_role roles.Open token ∷ ls) (open-group (suc n) token r ls is follows)
 
-close-outside : (n : ℕ) (r : Remainder) (ls : List Labelled) → Follows (outside n).expect (outside n).groups r ls → Outside n (group_of r.block r.parts ∷ r.outer) ls []
+close-outside : (n : ℕ) (r : Remainder) (ls : List Labelled) → Follows (outside n).expect (outside n).groups r ls → Outside n (group_of r.block r.elements ∷ r.outer) ls []
 close-outside zero r ls e = e
 close-outside (suc n) r ls follows = follows
 
@@ -157,7 +157,7 @@ object-grows n terminals.Number token is r ls = λ follows. object-rest n (Numbe
 object-grows n terminals.Boolean token is r ls = λ follows. object-rest n (BooleanNode token) r _ ls (is, refl) follows
 object-grows n _ token is r ls = tt
 
--- the signs behind an object
+-- the signs after an object
 comma-objects : (token : Lexeme) → Front terminals.Comma token → (nodes : List Node) (ls to : List Labelled) → AreObjects nodes ls to →
     AreMoreObjects nodes (with_role roles.Keyword token ∷ ls) to
 comma-objects token is [] ls to never = absurd never
@@ -166,7 +166,7 @@ comma-objects token is (node ∷ nodes) ls to spelled = (ls, (token, (is, refl))
 semicolon-properties : (token : Lexeme) → Front terminals.Semicolon token → (properties : List Property) (ls to : List Labelled) → AfterSemicolon properties ls to →
     AreMoreProperties properties (with_role roles.Keyword token ∷ ls) to
 semicolon-properties token is [] ls to semicolons = more _ ls to (token, (is, refl)) semicolons
-semicolon-properties token is (property ∷ properties) ls to spelled = (ls, (token, (is, refl)), spelled)
+semicolon-properties token is (property ∷ properties) ls to (m, semicolons, spelled) = (m, (ls, (token, (is, refl)), semicolons), spelled)
 
 semicolon-semicolon : (token : Lexeme) → Front terminals.Semicolon token → (properties : List Property) (ls to : List Labelled) → AfterSemicolon properties ls to →
     AfterSemicolon properties (with_role roles.Keyword token ∷ ls) to
@@ -339,18 +339,18 @@ read-follows (l ∷ ls) state (next, is, reads) =
     (read-follows ls next reads)
 
 -- what follows at the start is a query
-follows-query : (r : Remainder) (parts : Parts) (ls : List Labelled) →
-    (IsPrologue r.head.declarations ▸ Keyword terminals.SelectWord ▸ IsDistinct r.head.distinct ▸ AreColumns r.head.columns ▸ Maybe (Keyword terminals.WhereWord) ▸ NestedFirst parts 0 r.outer) ls [] →
-    (IsPrologue r.head.declarations ▸ Keyword terminals.SelectWord ▸ IsDistinct r.head.distinct ▸ AreColumns r.head.columns ▸ Maybe (Keyword terminals.WhereWord) ▸ IsGroup (main_group parts)) ls []
-follows-query r NoParts ls (m1, a, (m2, b, (m3, c, (m4, d, (m5, e, never))))) = absurd never
-follows-query r (OptionalPart block parts next rest) ls (m1, a, (m2, b, (m3, c, (m4, d, (m5, e, never))))) = absurd never
-follows-query r (NestedPart block parts next rest) ls (m1, a, (m2, b, (m3, c, (m4, d, (m5, e, (m6, braces, last)))))) =
-    let P : List Labelled → Type 0 = λ to. InBraces (IsBlock block ▸ AreParts parts) m5 to in
+follows-query : (r : Remainder) (elements : Elements) (ls : List Labelled) →
+    (IsPrologue r.head.declarations ▸ Keyword terminals.SelectWord ▸ IsDistinct r.head.distinct ▸ AreColumns r.head.columns ▸ Maybe (Keyword terminals.WhereWord) ▸ NestedFirst elements 0 r.outer) ls [] →
+    (IsPrologue r.head.declarations ▸ Keyword terminals.SelectWord ▸ IsDistinct r.head.distinct ▸ AreColumns r.head.columns ▸ Maybe (Keyword terminals.WhereWord) ▸ IsGroup (main_group elements)) ls []
+follows-query r EndOfGroup ls (m1, a, (m2, b, (m3, c, (m4, d, (m5, e, never))))) = absurd never
+follows-query r (Element OptionalGroup block elements next rest) ls (m1, a, (m2, b, (m3, c, (m4, d, (m5, e, never))))) = absurd never
+follows-query r (Element NestedGroup block elements next rest) ls (m1, a, (m2, b, (m3, c, (m4, d, (m5, e, (m6, braces, last)))))) =
+    let P : List Labelled → Type 0 = λ to. InBraces (IsBlock block ▸ AreElements elements) m5 to in
     (m1, a, (m2, b, (m3, c, (m4, d, (m5, e, subst P last braces)))))
 
 -- tokens that are read from the start to the end of a query are a query
 pub reads-query : (labelled : List Labelled) → Reads ended start labelled → IsQuery (tree_left (remainder_of labelled)) labelled
 reads-query labelled reads = record {
   spelled =
-      follows-query (remainder_of labelled) (remainder_of labelled).parts labelled (read-follows labelled start reads);
+      follows-query (remainder_of labelled) (remainder_of labelled).elements labelled (read-follows labelled start reads);
 }

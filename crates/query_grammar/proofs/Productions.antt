@@ -5,16 +5,16 @@ use Rattle.query_grammar.specs.declared.terminal.Terminal.TheVariants as termina
 use Rattle.query_grammar.specs.declared.syntax.Role.TheVariants as roles
 use Rattle.query_grammar.specs.declared.expect.Expect.TheVariants as expects
 use Rattle.query_grammar.specs.Roles.{Labelled}
-use Rattle.query_grammar.specs.Tree.{Node, VariableNode, IriNode, StringNode, TaggedNode, TypedNode, NumberNode, BooleanNode, TypeNode, Property, Same, Parts, NoParts, OptionalPart, NestedPart, Group, Declaration, Columns, AllColumns, Variables, Syntax}
-use Rattle.query_grammar.specs.Grammar.{◌▸◌, Many, none, more, Keyword, IsNode, IsVerb, AreMoreObjects, AreObjects, IsProperty, AreMoreProperties, AreProperties, IsSame, AreMoreSames, IsBlock, InBraces, AreParts, IsGroup, AreMoreVariables, AreVariables, AreColumns, IsDistinct, IsDeclaration, IsPrologue, SpellsQuery, IsQuery}
+use Rattle.query_grammar.specs.Tree.{Node, VariableNode, IriNode, StringNode, TaggedNode, TypedNode, NumberNode, BooleanNode, TypeNode, Property, Same, Elements, EndOfGroup, Element, OptionalGroup, NestedGroup, Group, Declaration, Columns, AllColumns, Variables, Syntax}
+use Rattle.query_grammar.specs.Grammar.{◌▸◌, Many, none, more, Keyword, IsNode, IsVerb, AreMoreObjects, AreObjects, IsProperty, AreMoreProperties, AreProperties, IsSame, AreMoreSames, IsBlock, InBraces, AreElements, IsGroup, AreMoreVariables, AreVariables, AreColumns, IsDistinct, IsDeclaration, IsPrologue, SpellsQuery, IsQuery}
 use Rattle.query_grammar.specs.Expecting.{prologue_step, declared_prefix_step, namespace_step, projection_step, columns_step, more_columns_step, where_step, group_step, block_step, element_step, after_element_step, verb_step, object_step, datatype_step, after_subject_string_step, after_objects_step, after_object_step, after_object_string_step, after_semicolon_step, outside, start, ended}
 use Rattle.query_grammar.proofs.Remainders.{Suffix, NoSuffix, TagSuffix, TypeSuffix, head_of, no_head, Remainder, left, group_of, property_of, same_of, nothing_left, remainder_of, tree_left}
 use Rattle.query_grammar.proofs.Weakenings.{columns-projection, group-where, where-more_columns, group-element, element-block, block-after_element, verb-after_string, element-after_objects, after_objects-after_object, after_object-after_string, after_objects-after_semicolon, verb-after_semicolon}
-use Rattle.query_grammar.proofs.Carrying.{Reads, On, At, Carries, c-then, c-or, c-before, c-behind, c-nothing, c-never, c-maybe, weaken, at_state, c-token-at, c-token, c-some, c-keyword}
+use Rattle.query_grammar.proofs.Carrying.{Reads, On, At, Carries, c-then, c-or, c-before, c-after, c-nothing, c-never, c-maybe, weaken, at_state, c-token-at, c-token, c-some, c-keyword}
 
--- what is left in a group, with the parts, the groups round it and the head of another remainder
+-- what is left in a group, with the elements, the groups round it and the head of another remainder
 abbrev inside : Suffix → List Node → List Property → List Same → Remainder → Remainder
-inside suffix objects properties block q = left suffix objects properties block q.parts q.outer q.head
+inside suffix objects properties block q = left suffix objects properties block q.elements q.outer q.head
 
 object-carries : (n : ℕ) (node : Node) (os : List Node) (ps : List Property) (block : List Same) (q : Remainder) →
     Carries (IsNode roles.Object node) (On (object_step n) (inside NoSuffix (node ∷ os) ps block q)) (On (after_object_step n) (inside NoSuffix os ps block q))
@@ -25,7 +25,7 @@ object-carries n (IriNode token) os ps block q =
     (c-or (c-token (object_step n) terminals.Prefixed roles.Object token expects.AfterObject n (inside NoSuffix os ps block q) refl)
     (c-token (object_step n) terminals.Prefix roles.Object token expects.AfterObject n (inside NoSuffix os ps block q) refl))
 object-carries n (StringNode token) os ps block q =
-    c-behind (weaken (inside NoSuffix os ps block q) (after_object-after_string n))
+    c-after (weaken (inside NoSuffix os ps block q) (after_object-after_string n))
     (c-token (object_step n) terminals.Quoted roles.Object token expects.AfterObjectString n (inside NoSuffix os ps block q) refl)
 object-carries n (TaggedNode token tag) os ps block q =
     c-then (c-token (object_step n) terminals.Quoted roles.Object token expects.AfterObjectString n (inside (TagSuffix tag) os ps block q) refl)
@@ -51,7 +51,7 @@ subject-carries n (IriNode token) ps block q =
     (c-or (c-token (block_step n) terminals.Prefixed roles.Subject token expects.Verb n (inside NoSuffix [] ps block q) refl)
     (c-token (block_step n) terminals.Prefix roles.Subject token expects.Verb n (inside NoSuffix [] ps block q) refl))
 subject-carries n (StringNode token) ps block q =
-    c-behind (weaken (inside NoSuffix [] ps block q) (verb-after_string n))
+    c-after (weaken (inside NoSuffix [] ps block q) (verb-after_string n))
     (c-token (block_step n) terminals.Quoted roles.Subject token expects.AfterSubjectString n (inside NoSuffix [] ps block q) refl)
 subject-carries n (TaggedNode token tag) ps block q =
     c-then (c-token (block_step n) terminals.Quoted roles.Subject token expects.AfterSubjectString n (inside (TagSuffix tag) [] ps block q) refl)
@@ -123,10 +123,10 @@ more_properties-carry : (n : ℕ) (ps : List Property) (block : List Same) (q : 
     Carries (AreMoreProperties ps) (On (after_objects_step n) (inside NoSuffix [] ps block q)) (On (after_objects_step n) (inside NoSuffix [] [] block q))
 more_properties-carry n [] block q = record { carry = last_semicolons-from n block q }
 more_properties-carry n (property ∷ ps) block q =
-    c-then (c-keyword (after_objects_step n) terminals.Semicolon expects.AfterSemicolon n (inside NoSuffix [] (property ∷ ps) block q) refl)
-    (c-then (semicolons-carry n (property ∷ ps) block q)
+    c-then
+    (c-then (c-keyword (after_objects_step n) terminals.Semicolon expects.AfterSemicolon n (inside NoSuffix [] (property ∷ ps) block q) refl) (semicolons-carry n (property ∷ ps) block q))
     (c-then (c-before (weaken (inside NoSuffix [] (property ∷ ps) block q) (verb-after_semicolon n)) (property-carries n property ps block q))
-    (more_properties-carry n ps block q)))
+    (more_properties-carry n ps block q))
 
 properties-carry : (n : ℕ) (ps : List Property) (block : List Same) (q : Remainder) →
     Carries (AreProperties ps) (On (verb_step n) (inside NoSuffix [] ps block q)) (On (after_objects_step n) (inside NoSuffix [] [] block q))
@@ -140,7 +140,7 @@ same-carries n same block q = c-then (subject-carries n same.subject same.proper
 more_sames-carry : (n : ℕ) (block : List Same) (q : Remainder) →
     Carries (AreMoreSames block) (On (after_objects_step n) (inside NoSuffix [] [] block q)) (On (element_step n) (inside NoSuffix [] [] [] q))
 more_sames-carry n [] q =
-    c-maybe (c-behind (weaken (inside NoSuffix [] [] [] q) (element-block n))
+    c-maybe (c-after (weaken (inside NoSuffix [] [] [] q) (element-block n))
     (c-keyword (after_objects_step n) terminals.Stop expects.Block n (inside NoSuffix [] [] [] q) refl))
     (weaken (inside NoSuffix [] [] [] q) (element-after_objects n))
 more_sames-carry n (same ∷ block) q =
@@ -152,48 +152,48 @@ block-carries : (n : ℕ) (block : List Same) (q : Remainder) →
 block-carries n [] q = c-nothing (weaken (inside NoSuffix [] [] [] q) (element-block n))
 block-carries n (same ∷ block) q = c-then (same-carries n same block q) (more_sames-carry n block q)
 
--- what is left at the end of a group's block: its parts
-abbrev at_parts : Parts → List Group → Remainder
-at_parts parts outer = left NoSuffix [] [] [] parts outer no_head
+-- what is left at the end of a group's block: its elements
+abbrev at_elements : Elements → List Group → Remainder
+at_elements elements outer = left NoSuffix [] [] [] elements outer no_head
 
-abbrev at_block : List Same → Parts → List Group → Remainder
-at_block block parts outer = left NoSuffix [] [] block parts outer no_head
+abbrev at_block : List Same → Elements → List Group → Remainder
+at_block block elements outer = left NoSuffix [] [] block elements outer no_head
 
-braces-carry : (n : ℕ) (block : List Same) (parts : Parts) (next : List Same) (rest : Parts) (outer : List Group) →
-    Carries (AreParts parts) (On (element_step (suc n)) (at_parts parts (group_of next rest ∷ outer))) (On (element_step (suc n)) (at_parts NoParts (group_of next rest ∷ outer))) →
-    Carries (InBraces (IsBlock block ▸ AreParts parts)) (On (group_step n) (at_parts (NestedPart block parts next rest) outer)) (At (outside n) (at_block next rest outer))
-braces-carry n block parts next rest outer inner =
-    c-then (c-some terminals.Open roles.Open (λ token. c-token (group_step n) terminals.Open roles.Open token expects.Block (suc n) (at_block block parts (group_of next rest ∷ outer)) refl))
-    (c-then (c-then (block-carries (suc n) block (at_parts parts (group_of next rest ∷ outer))) inner)
+braces-carry : (n : ℕ) (block : List Same) (elements : Elements) (next : List Same) (rest : Elements) (outer : List Group) →
+    Carries (AreElements elements) (On (element_step (suc n)) (at_elements elements (group_of next rest ∷ outer))) (On (element_step (suc n)) (at_elements EndOfGroup (group_of next rest ∷ outer))) →
+    Carries (InBraces (IsBlock block ▸ AreElements elements)) (On (group_step n) (at_elements (Element NestedGroup block elements next rest) outer)) (At (outside n) (at_block next rest outer))
+braces-carry n block elements next rest outer inner =
+    c-then (c-some terminals.Open roles.Open (λ token. c-token (group_step n) terminals.Open roles.Open token expects.Block (suc n) (at_block block elements (group_of next rest ∷ outer)) refl))
+    (c-then (c-then (block-carries (suc n) block (at_elements elements (group_of next rest ∷ outer))) inner)
     (c-some terminals.Close roles.Close (λ token. c-token-at (element_step (suc n)) terminals.Close roles.Close token (outside n) (at_block next rest outer) refl)))
 
-parts-carry : (n : ℕ) (parts : Parts) (outer : List Group) →
-    Carries (AreParts parts) (On (element_step (suc n)) (at_parts parts outer)) (On (element_step (suc n)) (at_parts NoParts outer))
-parts-carry n NoParts outer = c-nothing (λ ls on. on)
-parts-carry n (OptionalPart block parts next rest) outer =
-    c-then (c-some terminals.OptionalWord roles.Optional (λ token. c-token (element_step (suc n)) terminals.OptionalWord roles.Optional token expects.Group (suc n) (at_parts (NestedPart block parts next rest) outer) refl))
-    (c-then (c-behind (at_state expects.AfterElement (suc n) (at_block next rest outer))
-    (braces-carry (suc n) block parts next rest outer (parts-carry (suc n) parts (group_of next rest ∷ outer))))
+elements-carry : (n : ℕ) (elements : Elements) (outer : List Group) →
+    Carries (AreElements elements) (On (element_step (suc n)) (at_elements elements outer)) (On (element_step (suc n)) (at_elements EndOfGroup outer))
+elements-carry n EndOfGroup outer = c-nothing (λ ls on. on)
+elements-carry n (Element OptionalGroup block elements next rest) outer =
+    c-then (c-some terminals.OptionalWord roles.Optional (λ token. c-token (element_step (suc n)) terminals.OptionalWord roles.Optional token expects.Group (suc n) (at_elements (Element NestedGroup block elements next rest) outer) refl))
+    (c-then (c-after (at_state expects.AfterElement (suc n) (at_block next rest outer))
+    (braces-carry (suc n) block elements next rest outer (elements-carry (suc n) elements (group_of next rest ∷ outer))))
     (c-then (c-maybe (c-keyword (after_element_step (suc n)) terminals.Stop expects.Block (suc n) (at_block next rest outer) refl)
     (weaken (at_block next rest outer) (block-after_element (suc n))))
-    (c-then (block-carries (suc n) next (at_parts rest outer)) (parts-carry n rest outer))))
-parts-carry n (NestedPart block parts next rest) outer =
-    c-then (c-before (weaken (at_parts (NestedPart block parts next rest) outer) (group-element (suc n)))
-    (c-behind (at_state expects.AfterElement (suc n) (at_block next rest outer))
-    (braces-carry (suc n) block parts next rest outer (parts-carry (suc n) parts (group_of next rest ∷ outer)))))
+    (c-then (block-carries (suc n) next (at_elements rest outer)) (elements-carry n rest outer))))
+elements-carry n (Element NestedGroup block elements next rest) outer =
+    c-then (c-before (weaken (at_elements (Element NestedGroup block elements next rest) outer) (group-element (suc n)))
+    (c-after (at_state expects.AfterElement (suc n) (at_block next rest outer))
+    (braces-carry (suc n) block elements next rest outer (elements-carry (suc n) elements (group_of next rest ∷ outer)))))
     (c-then (c-maybe (c-keyword (after_element_step (suc n)) terminals.Stop expects.Block (suc n) (at_block next rest outer) refl)
     (weaken (at_block next rest outer) (block-after_element (suc n))))
-    (c-then (block-carries (suc n) next (at_parts rest outer)) (parts-carry n rest outer)))
+    (c-then (block-carries (suc n) next (at_elements rest outer)) (elements-carry n rest outer)))
 
 -- what is left before the group of a query, whose head is left as told
 abbrev at_head : Group → List Declaration → Bool → Columns → Remainder
 at_head group declarations distinct columns =
-    left NoSuffix [] [] [] (NestedPart group.block group.parts [] NoParts) [] (head_of declarations distinct columns)
+    left NoSuffix [] [] [] (Element NestedGroup group.block group.elements [] EndOfGroup) [] (head_of declarations distinct columns)
 
 group-carries : (group : Group) → Carries (IsGroup group) (On (group_step 0) (at_head group [] false (Variables []))) (At ended nothing_left)
 group-carries group =
-    braces-carry 0 group.block group.parts [] NoParts []
-    (parts-carry 0 group.parts (group_of [] NoParts ∷ []))
+    braces-carry 0 group.block group.elements [] EndOfGroup []
+    (elements-carry 0 group.elements (group_of [] EndOfGroup ∷ []))
 
 more_variables-carry : (group : Group) (tokens : List Lexeme) →
     Carries (AreMoreVariables tokens) (On (more_columns_step 0) (at_head group [] false (Variables tokens))) (On (where_step 0) (at_head group [] false (Variables [])))
@@ -226,7 +226,7 @@ declaration-carries : (group : Group) (declaration : Declaration) (declarations 
 declaration-carries group declaration declarations distinct columns =
     c-then (c-keyword (prologue_step 0) terminals.PrefixWord expects.DeclaredPrefix 0 (at_head group (declaration ∷ declarations) distinct columns) refl)
     (c-then (c-token (declared_prefix_step 0) terminals.Prefix roles.Declared declaration.prefix expects.Namespace 0
-    (left (TypeSuffix declaration.iri) [] [] [] (NestedPart group.block group.parts [] NoParts) [] (head_of declarations distinct columns)) refl)
+    (left (TypeSuffix declaration.iri) [] [] [] (Element NestedGroup group.block group.elements [] EndOfGroup) [] (head_of declarations distinct columns)) refl)
     (c-token (namespace_step 0) terminals.Iri roles.Namespace declaration.iri expects.Prologue 0 (at_head group declarations distinct columns) refl))
 
 prologue-carries : (group : Group) (declarations : List Declaration) (distinct : Bool) (columns : Columns) →
@@ -245,14 +245,14 @@ query-carries tree =
     (weaken (at_head tree.group [] false (Variables [])) (group-where 0)))
     (group-carries tree.group)))))
 
-nothing-behind : At ended nothing_left []
+nothing-after : At ended nothing_left []
 unfolding remainder_of
-nothing-behind = record { reads = refl; grown = refl }
+nothing-after = record { reads = refl; grown = refl }
 
 query-at : (tree : Syntax) (labelled : List Labelled) → IsQuery tree labelled → At start (at_head tree.group tree.declarations tree.distinct tree.columns) labelled
 query-at tree labelled query =
     at_state expects.Prologue 0 (at_head tree.group tree.declarations tree.distinct tree.columns) labelled
-    ((query-carries tree).carry labelled [] query.spelled nothing-behind)
+    ((query-carries tree).carry labelled [] query.spelled nothing-after)
 
 -- a query is read to its end, in its roles
 pub query-reads : (tree : Syntax) (labelled : List Labelled) → IsQuery tree labelled → Reads ended start labelled

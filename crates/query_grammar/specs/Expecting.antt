@@ -1,4 +1,4 @@
--- The second layer of the grammar: what a query expects behind its tokens, read one by one. All that counts is
+-- The second layer of the grammar: what a query expects after its tokens, read one by one. All that counts is
 -- what was read last, and how many groups are open. One function for each rule, in the order of the grammar.
 use Rattle.std.specs.Prelude.{◌≡◌, ◌≢◌, ◌⊎◌, ◌<◌, ℕ, zero, suc, List, [], ◌∷◌, Option, Some, None, option_and_then, length, take}
 use Rattle.query_tokens.specs.Token.{Lexeme}
@@ -20,15 +20,15 @@ state_of expect groups = record { expect = expect; groups = groups }
 abbrev pub start : State
 start = state_of Prologue 0
 
--- where a query stands behind its last token
+-- where a query stands after its last token
 abbrev pub ended : State
 ended = state_of End 0
 
--- a token that is read in this role: what is expected behind it, and how many groups are open there
+-- a token that is read in this role: what is expected after it, and how many groups are open there
 abbrev pub reads : Role → Expect → ℕ → Option Step
 reads role expect groups = Some (record { state = state_of expect groups; role = role })
 
--- prologue ::= ('PREFIX' prefix IRI)*, and SELECT behind it
+-- prologue ::= ('PREFIX' prefix IRI)*, and SELECT after it
 abbrev pub prologue_step : ℕ → Terminal → Option Step
 prologue_step n terminals.PrefixWord = reads roles.Keyword DeclaredPrefix n
 prologue_step n terminals.SelectWord = reads roles.Keyword Projection n
@@ -68,12 +68,12 @@ abbrev pub more_columns_step : ℕ → Terminal → Option Step
 more_columns_step n terminals.Variable = reads roles.Column MoreColumns n
 more_columns_step n terminal = where_step n terminal
 
--- behind the '}' of a group, round which n are open
+-- after the '}' of a group, round which n are open
 abbrev pub outside : ℕ → State
 outside zero = ended
 outside (suc n) = state_of AfterElement (suc n)
 
--- behind a '}', before which n groups are open
+-- after a '}', before which n groups are open
 abbrev pub closed : ℕ → State
 closed zero = ended
 closed (suc n) = outside n
@@ -121,20 +121,20 @@ object_step n terminals.Number = reads roles.Object AfterObject n
 object_step n terminals.Boolean = reads roles.Object AfterObject n
 object_step n _ = None
 
--- the iri of a datatype, and what is expected behind it
+-- the iri of a datatype, and what is expected after it
 abbrev pub datatype_step : Expect → ℕ → Terminal → Option Step
-datatype_step behind n terminals.Iri = reads roles.Datatype behind n
-datatype_step behind n terminals.Prefixed = reads roles.Datatype behind n
-datatype_step behind n terminals.Prefix = reads roles.Datatype behind n
-datatype_step behind n _ = None
+datatype_step after n terminals.Iri = reads roles.Datatype after n
+datatype_step after n terminals.Prefixed = reads roles.Datatype after n
+datatype_step after n terminals.Prefix = reads roles.Datatype after n
+datatype_step after n _ = None
 
--- (tag | '^^' iri)? behind a string that is a subject
+-- (tag | '^^' iri)? after a string that is a subject
 abbrev pub after_subject_string_step : ℕ → Terminal → Option Step
 after_subject_string_step n terminals.Tag = reads roles.Tag Verb n
 after_subject_string_step n terminals.Carets = reads roles.Keyword SubjectDatatype n
 after_subject_string_step n terminal = verb_step n terminal
 
--- (';' (verb objects)?)*, and ('.' block?)? behind it
+-- (';' (verb objects)?)*, and ('.' block?)? after it
 abbrev pub after_objects_step : ℕ → Terminal → Option Step
 after_objects_step n terminals.Semicolon = reads roles.Keyword AfterSemicolon n
 after_objects_step n terminals.Stop = reads roles.Keyword Block n
@@ -145,13 +145,13 @@ abbrev pub after_object_step : ℕ → Terminal → Option Step
 after_object_step n terminals.Comma = reads roles.Keyword Object n
 after_object_step n terminal = after_objects_step n terminal
 
--- (tag | '^^' iri)? behind a string that is an object
+-- (tag | '^^' iri)? after a string that is an object
 abbrev pub after_object_string_step : ℕ → Terminal → Option Step
 after_object_string_step n terminals.Tag = reads roles.Tag AfterObject n
 after_object_string_step n terminals.Carets = reads roles.Keyword ObjectDatatype n
 after_object_string_step n terminal = after_object_step n terminal
 
--- (verb objects)? behind a ';'
+-- (verb objects)? after a ';'
 abbrev pub after_semicolon_step : ℕ → Terminal → Option Step
 after_semicolon_step n terminals.Variable = reads roles.Verb Object n
 after_semicolon_step n terminals.Iri = reads roles.Verb Object n
@@ -185,21 +185,21 @@ step_at End n terminal = None
 unfoldable pub next_step : State → Terminal → Option Step
 next_step state terminal = step_at state.expect state.groups terminal
 
--- what a run over tokens has read: the tokens with their roles, and where the query stands behind them
-pub record Reading : Type 0 where
+-- what a run over tokens has read: the tokens with their roles, and where the query stands after them
+pub record Progress : Type 0 where
   pub labelled : List Labelled
   pub state : State
 
--- a token that is read, before what is read behind it
-abbrev pub read_before : Role → Lexeme → Reading → Reading
+-- a token that is read, before what is read after it
+abbrev pub read_before : Role → Lexeme → Progress → Progress
 read_before role token reading = record { labelled = with_role role token ∷ reading.labelled; state = reading.state }
 
-abbrev pub reading_before : Role → Lexeme → Option Reading → Option Reading
+abbrev pub reading_before : Role → Lexeme → Option Progress → Option Progress
 reading_before role token (Some reading) = Some (read_before role token reading)
 reading_before role token None = None
 
 -- A run over tokens: each is read where the one before it led to. Nothing where some token is not read.
-unfoldable pub read_tokens : State → List Lexeme → Option Reading
+unfoldable pub read_tokens : State → List Lexeme → Option Progress
 read_tokens state [] = Some (record { labelled = []; state = state })
 read_tokens state (token ∷ tokens) =
     option_and_then (λ step. reading_before step.role token (read_tokens step.state tokens)) (next_step state (terminal_of token))
@@ -213,6 +213,6 @@ pub record IsReadToEnd (labelled : List Labelled) : Type 0 where
 -- The run over tokens stops at number i, from 0: those before it are read, and it is not; at the end of the
 -- tokens, where all are read and more is expected.
 pub record StopsAt (tokens : List Lexeme) (i : ℕ) : Type 0 where
-  pub reading : Reading
+  pub reading : Progress
   pub before : read_tokens start (take i tokens) ≡ Some reading
   pub stops : (i < length tokens × (read_tokens start (take (suc i) tokens) ≡ None)) ⊎ ((i ≡ length tokens) × (reading.state.expect ≢ End))

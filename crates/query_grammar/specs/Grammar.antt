@@ -8,9 +8,9 @@ use Rattle.query_grammar.specs.declared.syntax.Role.{Role}
 use Rattle.query_grammar.specs.declared.syntax.Role.TheVariants as roles
 use Rattle.query_grammar.specs.Terminals.{terminal_of}
 use Rattle.query_grammar.specs.Roles.{Labelled, tokens_of, with_role}
-use Rattle.query_grammar.specs.Tree.{Node, VariableNode, IriNode, StringNode, TaggedNode, TypedNode, NumberNode, BooleanNode, TypeNode, Property, Same, Parts, NoParts, OptionalPart, NestedPart, Group, Declaration, Columns, AllColumns, Variables, Syntax}
+use Rattle.query_grammar.specs.Tree.{Node, VariableNode, IriNode, StringNode, TaggedNode, TypedNode, NumberNode, BooleanNode, TypeNode, Property, Same, Elements, EndOfGroup, Element, OptionalGroup, NestedGroup, Group, Declaration, Columns, AllColumns, Variables, Syntax}
 
--- What a symbol of the grammar spells: the labelled tokens from a place on begin with it, and what is left behind it.
+-- What a symbol of the grammar spells: the labelled tokens from a place on begin with it, and what is left after it.
 abbrev pub Spelling : Type 1
 Spelling = List Labelled → List Labelled → Type 0
 
@@ -71,10 +71,14 @@ IsVerb (IriNode token) = IsIri roles.Verb token
 IsVerb (TypeNode token) = Token terminals.A roles.Verb token
 IsVerb _ = Never
 
+-- items in a row, each after a separator, and what comes after the last of them
+abbrev pub EachAfter : {A : Type 0} → Spelling → (A → Spelling) → Spelling → List A → Spelling
+EachAfter separator item end [] = end
+EachAfter separator item end (x ∷ xs) = separator ▸ item x ▸ EachAfter separator item end xs
+
 -- (',' node)*
 abbrev pub AreMoreObjects : List Node → Spelling
-AreMoreObjects [] = Nothing
-AreMoreObjects (node ∷ nodes) = Keyword terminals.Comma ▸ IsNode roles.Object node ▸ AreMoreObjects nodes
+AreMoreObjects nodes = EachAfter (Keyword terminals.Comma) (IsNode roles.Object) Nothing nodes
 
 -- objects ::= node (',' node)*
 abbrev pub AreObjects : List Node → Spelling
@@ -85,11 +89,13 @@ AreObjects (node ∷ nodes) = IsNode roles.Object node ▸ AreMoreObjects nodes
 abbrev pub IsProperty : Property → Spelling
 IsProperty property = IsVerb property.verb ▸ AreObjects property.objects
 
+-- ';'+
+abbrev pub Semicolons : Spelling
+Semicolons = Keyword terminals.Semicolon ▸ Many (Keyword terminals.Semicolon)
+
 -- (';' (verb objects)?)*: semicolons before each verb, and at the end any number of them
 abbrev pub AreMoreProperties : List Property → Spelling
-AreMoreProperties [] = Many (Keyword terminals.Semicolon)
-AreMoreProperties (property ∷ properties) =
-    Keyword terminals.Semicolon ▸ Many (Keyword terminals.Semicolon) ▸ IsProperty property ▸ AreMoreProperties properties
+AreMoreProperties properties = EachAfter Semicolons IsProperty (Many (Keyword terminals.Semicolon)) properties
 
 -- list ::= verb objects (';' (verb objects)?)*
 abbrev pub AreProperties : List Property → Spelling
@@ -102,8 +108,7 @@ IsSame same = IsNode roles.Subject same.subject ▸ AreProperties same.propertie
 
 -- ('.' block?)?
 abbrev pub AreMoreSames : List Same → Spelling
-AreMoreSames [] = Maybe (Keyword terminals.Stop)
-AreMoreSames (same ∷ block) = Keyword terminals.Stop ▸ IsSame same ▸ AreMoreSames block
+AreMoreSames block = EachAfter (Keyword terminals.Stop) IsSame (Maybe (Keyword terminals.Stop)) block
 
 -- block?, where block ::= same ('.' block?)?
 abbrev pub IsBlock : List Same → Spelling
@@ -115,16 +120,16 @@ abbrev pub InBraces : Spelling → Spelling
 InBraces inside = SomeToken terminals.Open roles.Open ▸ inside ▸ SomeToken terminals.Close roles.Close
 
 -- (element '.'? block?)*, where element ::= 'OPTIONAL' group | group
-abbrev pub AreParts : Parts → Spelling
-AreParts NoParts = Nothing
-AreParts (OptionalPart block parts next rest) =
-    SomeToken terminals.OptionalWord roles.Optional ▸ InBraces (IsBlock block ▸ AreParts parts) ▸ Maybe (Keyword terminals.Stop) ▸ IsBlock next ▸ AreParts rest
-AreParts (NestedPart block parts next rest) =
-    InBraces (IsBlock block ▸ AreParts parts) ▸ Maybe (Keyword terminals.Stop) ▸ IsBlock next ▸ AreParts rest
+abbrev pub AreElements : Elements → Spelling
+AreElements EndOfGroup = Nothing
+AreElements (Element OptionalGroup block elements next rest) =
+    SomeToken terminals.OptionalWord roles.Optional ▸ InBraces (IsBlock block ▸ AreElements elements) ▸ Maybe (Keyword terminals.Stop) ▸ IsBlock next ▸ AreElements rest
+AreElements (Element NestedGroup block elements next rest) =
+    InBraces (IsBlock block ▸ AreElements elements) ▸ Maybe (Keyword terminals.Stop) ▸ IsBlock next ▸ AreElements rest
 
 -- group ::= '{' block? (element '.'? block?)* '}'
 abbrev pub IsGroup : Group → Spelling
-IsGroup group = InBraces (IsBlock group.block ▸ AreParts group.parts)
+IsGroup group = InBraces (IsBlock group.block ▸ AreElements group.elements)
 
 -- variable*
 abbrev pub AreMoreVariables : List Lexeme → Spelling

@@ -29,6 +29,6 @@ abbrev pub is_close : Role → Bool
 is_close roles.Close = true
 is_close _ = false
 
--- how many groups are open behind some tokens
+-- how many groups are open after some tokens
 abbrev pub open_groups : List Labelled → ℕ
 open_groups labelled = count_of is_open labelled - count_of is_close labelled

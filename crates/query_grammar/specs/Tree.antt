@@ -24,17 +24,21 @@ pub record Same : Type 0 where
   pub subject : Node
   pub properties : List Property
 
--- What follows the first block in a group: nothing, or a group of its own (its block and parts), which is
--- OPTIONAL or only nested, the block behind it, and what follows that. A block without triples is empty.
-pub data Parts : Type 0 where
-  NoParts : Parts
-  OptionalPart : List Same → Parts → List Same → Parts → Parts
-  NestedPart : List Same → Parts → List Same → Parts → Parts
+-- what a group inside another is: OPTIONAL, or only nested
+pub data ElementKind : Type 0 where
+  OptionalGroup : ElementKind
+  NestedGroup : ElementKind
+
+-- What follows the first block in a group: nothing, or an element, which is a group of its own (its block and its
+-- elements) of some kind, the block after it, and what follows that. A block without triples is empty.
+pub data Elements : Type 0 where
+  EndOfGroup : Elements
+  Element : ElementKind → List Same → Elements → List Same → Elements → Elements
 
 -- a group: its first block, and what follows it
 pub record Group : Type 0 where
   pub block : List Same
-  pub parts : Parts
+  pub elements : Elements
 
 -- a declaration: the token of its prefix, and that of its IRI
 pub record Declaration : Type 0 where

@@ -14,41 +14,41 @@ pub enum Expect {
     DeclaredPrefix,
     /// The IRI of a declaration.
     Namespace,
-    /// Behind SELECT: DISTINCT or the columns.
+    /// After SELECT: DISTINCT or the columns.
     Projection,
-    /// Behind DISTINCT: the columns.
+    /// After DISTINCT: the columns.
     Columns,
-    /// Behind a column: another, or the WHERE clause.
+    /// After a column: another, or the WHERE clause.
     MoreColumns,
-    /// Behind `*`: the WHERE clause.
+    /// After `*`: the WHERE clause.
     WhereOrGroup,
-    /// Behind WHERE or OPTIONAL: `{`.
+    /// After WHERE or OPTIONAL: `{`.
     Group,
-    /// Behind `{`, or behind a `.`: a subject, an element, or `}`.
+    /// After `{`, or after a `.`: a subject, an element, or `}`.
     Block,
-    /// Behind the `}` of an element: a `.`, a subject, an element, or `}`.
+    /// After the `}` of an element: a `.`, a subject, an element, or `}`.
     AfterElement,
-    /// Behind a string that is a subject: a tag, `^^`, or a verb.
+    /// After a string that is a subject: a tag, `^^`, or a verb.
     AfterSubjectString,
-    /// Behind `^^`: the datatype of a subject.
+    /// After `^^`: the datatype of a subject.
     SubjectDatatype,
-    /// Behind a subject: a verb.
+    /// After a subject: a verb.
     Verb,
-    /// Behind a verb or a `,`: an object.
+    /// After a verb or a `,`: an object.
     Object,
-    /// Behind a string that is an object: a tag, `^^`, or what may follow any object.
+    /// After a string that is an object: a tag, `^^`, or what may follow any object.
     AfterObjectString,
-    /// Behind `^^`: the datatype of an object.
+    /// After `^^`: the datatype of an object.
     ObjectDatatype,
-    /// Behind an object: `,`, `;`, `.`, an element, or `}`.
+    /// After an object: `,`, `;`, `.`, an element, or `}`.
     AfterObject,
-    /// Behind a `;`: a verb, or what may follow any object, but `,`.
+    /// After a `;`: a verb, or what may follow any object, but `,`.
     AfterSemicolon,
-    /// Behind the last `}`: nothing.
+    /// After the last `}`: nothing.
     End,
 }
 
-/// Where a query stands behind some of its tokens.
+/// Where a query stands after some of its tokens.
 #[derive(Clone, Copy, Debug, PartialEq, Eq)]
 pub struct State {
     /// What may come next.
@@ -57,10 +57,10 @@ pub struct State {
     pub groups: usize,
 }
 
-/// A token that is read: where the query stands behind it, and what the token is for.
+/// A token that is read: where the query stands after it, and what the token is for.
 #[derive(Clone, Copy, Debug, PartialEq, Eq)]
 pub struct Step {
-    /// Where the query stands behind the token.
+    /// Where the query stands after the token.
     pub state: State,
     /// What the token is for.
     pub role: Role,
@@ -95,7 +95,7 @@ fn read(role: Role, expect: Expect, groups: usize) -> Option<Step>
     })
 }
 
-// `prologue ::= ('PREFIX' prefix IRI)*`, and SELECT behind it
+// `prologue ::= ('PREFIX' prefix IRI)*`, and SELECT after it
 fn prologue(groups: usize, terminal: Terminal) -> Option<Step>
     ensures { result ≡ expecting.prologue_step groups terminal }
 {
@@ -178,7 +178,7 @@ fn more_columns(groups: usize, terminal: Terminal) -> Option<Step>
     }
 }
 
-// Behind a `}`, before which so many groups are open.
+// After a `}`, before which so many groups are open.
 fn behind_close(groups: usize) -> State
     ensures { result ≡ expecting.closed groups }
 {
@@ -266,19 +266,19 @@ fn object(groups: usize, terminal: Terminal) -> Option<Step>
     }
 }
 
-// The iri of a datatype, and what is expected behind it.
-fn datatype(behind: Expect, groups: usize, terminal: Terminal) -> Option<Step>
-    ensures { result ≡ expecting.datatype_step behind groups terminal }
+// The iri of a datatype, and what is expected after it.
+fn datatype(after: Expect, groups: usize, terminal: Terminal) -> Option<Step>
+    ensures { result ≡ expecting.datatype_step after groups terminal }
 {
     match terminal {
         Terminal::Iri | Terminal::Prefixed | Terminal::Prefix => {
-            read(Role::Datatype, behind, groups)
+            read(Role::Datatype, after, groups)
         }
         _ => None,
     }
 }
 
-// `(tag | '^^' iri)?` behind a string that is a subject
+// `(tag | '^^' iri)?` after a string that is a subject
 fn after_subject_string(groups: usize, terminal: Terminal) -> Option<Step>
     ensures { result ≡ expecting.after_subject_string_step groups terminal }
 {
@@ -289,7 +289,7 @@ fn after_subject_string(groups: usize, terminal: Terminal) -> Option<Step>
     }
 }
 
-// `(';' (verb objects)?)*`, and `('.' block?)?` behind it
+// `(';' (verb objects)?)*`, and `('.' block?)?` after it
 fn after_objects(groups: usize, terminal: Terminal) -> Option<Step>
     requires { groups + 1 < 2 ^ 64 }
     ensures { result ≡ expecting.after_objects_step groups terminal }
@@ -312,7 +312,7 @@ fn after_object(groups: usize, terminal: Terminal) -> Option<Step>
     }
 }
 
-// `(tag | '^^' iri)?` behind a string that is an object
+// `(tag | '^^' iri)?` after a string that is an object
 fn after_object_string(groups: usize, terminal: Terminal) -> Option<Step>
     requires { groups + 1 < 2 ^ 64 }
     ensures { result ≡ expecting.after_object_string_step groups terminal }
@@ -324,7 +324,7 @@ fn after_object_string(groups: usize, terminal: Terminal) -> Option<Step>
     }
 }
 
-// `(verb objects)?` behind a `;`
+// `(verb objects)?` after a `;`
 fn after_semicolon(groups: usize, terminal: Terminal) -> Option<Step>
     requires { groups + 1 < 2 ^ 64 }
     ensures { result ≡ expecting.after_semicolon_step groups terminal }
@@ -336,7 +336,7 @@ fn after_semicolon(groups: usize, terminal: Terminal) -> Option<Step>
     }
 }
 
-/// What a token of this terminal symbol is for where the query stands so, and where it stands behind
+/// What a token of this terminal symbol is for where the query stands so, and where it stands after
 /// the token; `None` where no query of the grammar goes on with such a token. The count of open groups
 /// has room for one more: a caller that bounds how deep groups may stand keeps it far below.
 #[tactic(auto, unfolding(crate::specs::Expecting::next_step))]

@@ -8,7 +8,7 @@ ghost use Rattle.query_grammar.specs.Tree.{Syntax};
 ghost use Rattle.query_grammar.specs.Grammar.{AreQuery, Begins, HasFaultAt, IsQuery};
 ghost use Rattle.query_grammar.specs.Expecting.{
   IsReadToEnd,
-  Reading,
+  Progress,
   StopsAt,
   next_step,
   read_tokens,
@@ -36,10 +36,10 @@ pub fn tokens_have_one_tree()
 /// begins.
 pub fn beginnings_are_read()
     ensures exactly { (tokens : List Lexeme) → Begins tokens ↔ IsSome (read_tokens start tokens) }
-    ensures refused { (tokens : List Lexeme) (token : Lexeme) (reading : Reading) →
+    ensures refused { (tokens : List Lexeme) (token : Lexeme) (reading : Progress) →
         read_tokens start tokens ≡ Some reading → next_step reading.state (terminal_of token) ≡ None →
         ¬ Begins (tokens ++ token ∷ []) }
-    ensures roles { (tree : Syntax) (labelled behind : List Labelled) → IsQuery tree (labelled ++ behind) →
+    ensures roles { (tree : Syntax) (labelled after : List Labelled) → IsQuery tree (labelled ++ after) →
         (state : State) × (read_tokens start (tokens_of labelled) ≡ Some (record { labelled = labelled; state = state })) }
 {}
 
@@ -52,8 +52,8 @@ pub fn the_fault_is_where_the_run_stops()
     ensures one { (tokens : List Lexeme) (i j : ℕ) → HasFaultAt tokens i → HasFaultAt tokens j → i ≡ j }
 {}
 
-/// A state counts the groups that the tokens behind which it stands have opened and not closed.
+/// A state counts the groups that the tokens after which it stands have opened and not closed.
 pub fn open_groups_are_counted()
-    ensures { (tokens : List Lexeme) (reading : Reading) →
+    ensures { (tokens : List Lexeme) (reading : Progress) →
         read_tokens start tokens ≡ Some reading → reading.state.groups ≡ open_groups reading.labelled }
 {}

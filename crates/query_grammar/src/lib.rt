@@ -1,5 +1,5 @@
 //! The grammar of queries over their tokens, and a push parser that reads the tokens one by one: `next`
-//! answers what each is for, and where the query stands behind it. The grammar stands in `specs/`, as a
+//! answers what each is for, and where the query stands after it. The grammar stands in `specs/`, as a
 //! relation between syntax trees and tokens with their roles. The laws are contracts too: the push
 //! parser reads exactly the queries of the grammar, and stops exactly at the first token with which no
 //! query goes on. `unsupported_word` names a token of SPARQL 1.1 that the grammar leaves out.

@@ -1,4 +1,4 @@
--- Prefixes and local names: what stands before the colon, and what stands behind it without backslashes.
+-- Prefixes and local names: what stands before the colon, and what stands after it without backslashes.
 use Rattle.std.proofs.Common.{◌≡◌, ℕ, Bool, true, false, ◌||◌, ◌==◌, ◌⊎◌, inl, inr, ⊎_elim, List, [], ◌∷◌, ◌++◌, refl, ap, ◌∙◌, sym, append-nil, arith}
 use Rattle.std.proofs.lemmas.Bool.{and_parts, or_cases, eqb-true}
 use Rattle.std.proofs.lemmas.Bool.Decides.{nat_tests}

@@ -28,7 +28,7 @@ use Rattle.query_values.proofs.LocalValues.{from_colon-name, before_colon, local
 use Rattle.query_values.proofs.TermLaws.{lower_characters, other_text}
 use Rattle.query_values.proofs.TokenLaws.{lexical_characters, number_type-irichars, number_type-other, xsd_boolean-irichars, xsd_boolean-other}
 
--- what is read of a text in brackets is what stands behind the first of them
+-- what is read of a text in brackets is what stands after the first of them
 read_is_behind : (text rest iri : List ℕ) → scan_iri_ref text ≡ Some (iri, rest) → values iri_piece (after_first text) ≡ iri
 unfolding scan_iri_ref scan_iri_body
 read_is_behind text rest iri e =

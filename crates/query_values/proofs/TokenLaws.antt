@@ -28,7 +28,7 @@ lexical_characters token =
       | mark ∷ body ↦ string_values-characters mark body
     ]
 
--- a tag, as it stands behind its mark
+-- a tag, as it stands after its mark
 pub tag_is_lower : (text : List ℕ) → IsOf IsLangtag text → IsLowerTag (map to_ascii_lowercase (after_first text))
 tag_is_lower text (tag, (is, spelled)) = rw spelled (IsLowerTag-lowercase tag is)
 

@@ -116,7 +116,7 @@ fn words(rt: HostRuntime) -> Result<(), Fail> {
     Ok(())
 }
 
-// The literal of a string and the tag or the datatype behind it.
+// The literal of a string and the tag or the datatype after it.
 fn literal(alloc: Global, string: &str, tail: &str) -> Result<Term, Fail> {
     let string = first_token(alloc, string)?;
     let tail = first_token(alloc, tail)?;

@@ -35,7 +35,7 @@ pub(crate) fn text_of<'a>(token: Token<'a>) -> &'a str
     }
 }
 
-/// What stands behind the first character of a text.
+/// What stands after the first character of a text.
 pub(crate) fn after_first(text: &str) -> &str
     ensures { chars result.now ≡ after_first (chars text.now) }
 {
@@ -75,7 +75,7 @@ pub fn prefix<'a>(token: Token<'a>) -> &'a str
 }
 
 /// The IRI of a prefixed name: the namespace of its prefix, and the local name, in which a backslash
-/// and what stands behind it are that alone. The token is one that `tokens` gave and is not `Bad`; of one
+/// and what stands after it are that alone. The token is one that `tokens` gave and is not `Bad`; of one
 /// of another kind nothing useful is answered. `Err` only where memory runs out.
 #[tactic(auto, unfolding(crate::specs::reading::Values::local_of))]
 pub fn prefixed_iri(alloc: Global, namespace: &str, token: Token<'_>) -> Result<String, AllocError>

@@ -57,7 +57,7 @@ numbers-below : (scope : Scope) (tokens : List Lexeme) → 0 < length scope.name
 numbers-below scope [] some = tt
 numbers-below scope (token ∷ tokens) some = (number_of-below scope.names (name_of token) some, numbers-below scope tokens some)
 
--- tokens that are left behind a symbol are fine
+-- tokens that are left after a symbol are fine
 abbrev Keeps : ℕ → Spelling → Type 0
 Keeps n symbol = (from to : List Labelled) → symbol from to → AreFine n from → AreFine n to
 

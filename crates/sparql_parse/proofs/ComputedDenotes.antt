@@ -16,7 +16,7 @@ use Rattle.sparql_parse.specs.Denotes.{BeginsSo, grammar_fault}
 
 -- no token has a fault of its prefix or of a limit
 abbrev pub HasNoFaults : List Labelled → Type 0
-HasNoFaults labelled = (before behind : List Labelled) (l : Labelled) → labelled ≡ before ++ l ∷ behind → fault_of before l ≡ None
+HasNoFaults labelled = (before after : List Labelled) (l : Labelled) → labelled ≡ before ++ l ∷ after → fault_of before l ≡ None
 
 -- a query is what a syntax tree means
 pub record IsMeantBy (tree : Syntax) (labelled : List Labelled) (query : AbstractQuery) : Type 0 where
@@ -41,8 +41,8 @@ pub record Denotes (text : List ℕ) (query : AbstractQuery) : Type 0 where
 pub record HasOwnFault (tokens : List Lexeme) (fault : QueryFault) : Type 0 where
   pub before : List Labelled
   pub token : Labelled
-  pub behind : List Lexeme
-  pub split : tokens ≡ tokens_of (before ++ token ∷ []) ++ behind
+  pub after : List Lexeme
+  pub split : tokens ≡ tokens_of (before ++ token ∷ []) ++ after
   pub begins : BeginsSo (before ++ token ∷ [])
   pub none_before : HasNoFaults before
   pub is_fault : fault_of before token ≡ Some fault
@@ -50,14 +50,14 @@ pub record HasOwnFault (tokens : List Lexeme) (fault : QueryFault) : Type 0 wher
 -- The grammar does not go on at a token, or at the end of the text, and no token before has a fault.
 pub record HasGrammarFault (text : List ℕ) (tokens : List Lexeme) (fault : QueryFault) : Type 0 where
   pub before : List Labelled
-  pub behind : List Lexeme
-  pub split : tokens ≡ tokens_of before ++ behind
+  pub after : List Lexeme
+  pub split : tokens ≡ tokens_of before ++ after
   pub begins : BeginsSo before
   pub none_before : HasNoFaults before
   pub at : HasFaultAt tokens (length before)
-  pub is_fault : fault ≡ grammar_fault (length text) behind
+  pub is_fault : fault ≡ grammar_fault (length text) after
 
--- the text has the fault: behind its longest front that is UTF-8, where that is not the whole, or the first among its tokens
+-- the text has the fault: after its longest front that is UTF-8, where that is not the whole, or the first among its tokens
 pub data IsFaultOf (text : List ℕ) (fault : QueryFault) : Type 0 where
   not_utf8 : (good : ℕ) → IsValidUpTo text good → fault ≡ faults.Syntax good → IsFaultOf text fault
   of_token : (tokens : List Lexeme) → IsUtf8 text → AreTokens text tokens → HasOwnFault tokens fault → IsFaultOf text fault

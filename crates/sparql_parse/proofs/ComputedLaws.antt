@@ -12,7 +12,7 @@ use Rattle.query_grammar.specs.declared.expect.Step.{Step}
 use Rattle.query_grammar.specs.Terminals.{terminal_of}
 use Rattle.query_grammar.specs.Words.{unsupported_word}
 use Rattle.query_grammar.specs.Roles.{Labelled, with_role, tokens_of}
-use Rattle.query_grammar.specs.Expecting.{start, ended, next_step, Reading, read_tokens, StopsAt}
+use Rattle.query_grammar.specs.Expecting.{start, ended, next_step, Progress, read_tokens, StopsAt}
 use Rattle.query_grammar.proofs.Carrying.{Reads, step_of}
 use Rattle.query_grammar.proofs.Runs.{reads-run, run-reads, read-last, read-last-none, reads-split}
 use Rattle.query_grammar.proofs.GrammarLaws.{IsReadToEnd-query, query-run, HasFaultAt-StopsAt, StopsAt-HasFaultAt, is-end}
@@ -53,26 +53,26 @@ front-more tokens front back token split =
 length-tokens : (ls : List Labelled) → length (tokens_of ls) ≡ length ls
 length-tokens ls = length-map ls (λ (l : Labelled). l.token)
 
-run-before : (tokens behind : List Lexeme) (r : Reading) → Reads r.state start r.labelled → tokens ≡ tokens_of r.labelled ++ behind → read_tokens start (take (length r.labelled) tokens) ≡ Some r
-run-before tokens behind r reads split =
+run-before : (tokens after : List Lexeme) (r : Progress) → Reads r.state start r.labelled → tokens ≡ tokens_of r.labelled ++ after → read_tokens start (take (length r.labelled) tokens) ≡ Some r
+run-before tokens after r reads split =
     ap (λ n. read_tokens start (take n tokens)) (sym (length-tokens r.labelled))
-    ∙ ap (read_tokens start) (front-of tokens (tokens_of r.labelled) behind split)
+    ∙ ap (read_tokens start) (front-of tokens (tokens_of r.labelled) after split)
     ∙ reads-run r.labelled r.state start reads
 
-token-stops : (tokens behind : List Lexeme) (token : Lexeme) (r : Reading) → Reads r.state start r.labelled → tokens ≡ tokens_of r.labelled ++ token ∷ behind → next_step r.state (terminal_of token) ≡ None →
+token-stops : (tokens after : List Lexeme) (token : Lexeme) (r : Progress) → Reads r.state start r.labelled → tokens ≡ tokens_of r.labelled ++ token ∷ after → next_step r.state (terminal_of token) ≡ None →
     StopsAt tokens (length r.labelled)
-token-stops tokens behind token r reads split unread = record {
+token-stops tokens after token r reads split unread = record {
   reading = r;
-  before = run-before tokens (token ∷ behind) r reads split;
+  before = run-before tokens (token ∷ after) r reads split;
   stops = inl (
-    omega (arith, ap length split, length-append (tokens_of r.labelled) (token ∷ behind), length-tokens r.labelled),
+    omega (arith, ap length split, length-append (tokens_of r.labelled) (token ∷ after), length-tokens r.labelled),
     ap (λ n. read_tokens start (take (suc n) tokens)) (sym (length-tokens r.labelled))
-        ∙ ap (read_tokens start) (front-more tokens (tokens_of r.labelled) behind token split)
+        ∙ ap (read_tokens start) (front-more tokens (tokens_of r.labelled) after token split)
         ∙ read-last-none (tokens_of r.labelled) token start r (reads-run r.labelled r.state start reads) unread,
   );
 }
 
-end-stops : (tokens : List Lexeme) (r : Reading) → Reads r.state start r.labelled → tokens ≡ tokens_of r.labelled ++ [] → r.state.expect ≢ expects.End → StopsAt tokens (length r.labelled)
+end-stops : (tokens : List Lexeme) (r : Progress) → Reads r.state start r.labelled → tokens ≡ tokens_of r.labelled ++ [] → r.state.expect ≢ expects.End → StopsAt tokens (length r.labelled)
 end-stops tokens r reads split going = record {
   reading = r;
   before = run-before tokens [] r reads split;
@@ -83,12 +83,12 @@ end-stops tokens r reads split going = record {
 text-stands : (text : List ℕ) → Stands (tokens_read text) (read_on first (tokens_read text))
 text-stands text = read-stands (tokens_read text) (tokens_read text) first (record { reads = refl; none = none-nothing }) refl
 
-abbrev reading-of-text : List ℕ → Result Reading QueryFault → Answer
+abbrev reading-of-text : List ℕ → Result Progress QueryFault → Answer
 reading-of-text text read = and_then (query_at_end (length text)) read
 
 module _ (text : List ℕ) (utf8 : IsUtf8 text) where
   -- a query
-  ended-denotes : (query : AbstractQuery) (r : Reading) → IsFaultFree r → tokens_of r.labelled ≡ tokens_read text →
+  ended-denotes : (query : AbstractQuery) (r : Progress) → IsFaultFree r → tokens_of r.labelled ≡ tokens_read text →
       (r.state.expect ≡ expects.End) ⊎ (r.state.expect ≢ expects.End) → query_at_end (length text) r ≡ Ok query → Denotes text query
   ended-denotes query r free same (inl at_end) e =
       let (tree, is_query) = IsReadToEnd-query r.labelled (record { state = r.state; run = reads-run r.labelled r.state start free.reads; at_end = at_end }) in
@@ -106,7 +106,7 @@ module _ (text : List ℕ) (utf8 : IsUtf8 text) where
       }
   ended-denotes query r free same (inr going) e = absurd (Ok-not-Err query (faults.Syntax (length text)) (query_at_end (length text) r) e (goes_on (length text) r going))
 
-  read-denotes : (query : AbstractQuery) (read : Result Reading QueryFault) → Stands (tokens_read text) read → reading-of-text text read ≡ Ok query → Denotes text query
+  read-denotes : (query : AbstractQuery) (read : Result Progress QueryFault) → Stands (tokens_read text) read → reading-of-text text read ≡ Ok query → Denotes text query
   read-denotes query (Ok r) (free, same) e = ended-denotes query r free same (is-end r.state.expect) e
   read-denotes query (Err fault) stands e = absurd (Ok-not-Err query fault (Err fault) e refl)
 
@@ -114,12 +114,12 @@ module _ (text : List ℕ) (utf8 : IsUtf8 text) where
   own-is_fault : (fault : QueryFault) → HasOwnFault (tokens_read text) fault → IsFaultOf text fault
   own-is_fault fault own = IsFaultOf.of_token (tokens_read text) utf8 (tokens_read-are text) own
 
-  grammar-is_fault : (fault : QueryFault) (behind : List Lexeme) (r : Reading) → IsFaultFree r → tokens_read text ≡ tokens_of r.labelled ++ behind →
-      StopsAt (tokens_read text) (length r.labelled) → fault ≡ grammar_fault (length text) behind → IsFaultOf text fault
-  grammar-is_fault fault behind r free split stops is =
+  grammar-is_fault : (fault : QueryFault) (after : List Lexeme) (r : Progress) → IsFaultFree r → tokens_read text ≡ tokens_of r.labelled ++ after →
+      StopsAt (tokens_read text) (length r.labelled) → fault ≡ grammar_fault (length text) after → IsFaultOf text fault
+  grammar-is_fault fault after r free split stops is =
       let has : HasGrammarFault text (tokens_read text) fault = record {
         before = r.labelled;
-        behind = behind;
+        after = after;
         split = split;
         begins = reads-begins r.labelled r.state free.reads;
         none_before = free.none;
@@ -130,10 +130,10 @@ module _ (text : List ℕ) (utf8 : IsUtf8 text) where
 
   stop-is_fault : (fault : QueryFault) → StopsWith (tokens_read text) fault → IsFaultOf text fault
   stop-is_fault fault stop =
-      grammar-is_fault fault (stop.token ∷ stop.behind) stop.reading stop.fault_free stop.split
-      (token-stops (tokens_read text) stop.behind stop.token stop.reading stop.fault_free.reads stop.split stop.unread) stop.is_fault
+      grammar-is_fault fault (stop.token ∷ stop.after) stop.reading stop.fault_free stop.split
+      (token-stops (tokens_read text) stop.after stop.token stop.reading stop.fault_free.reads stop.split stop.unread) stop.is_fault
 
-  end-is_fault : (fault : QueryFault) (r : Reading) → IsFaultFree r → tokens_of r.labelled ≡ tokens_read text →
+  end-is_fault : (fault : QueryFault) (r : Progress) → IsFaultFree r → tokens_of r.labelled ≡ tokens_read text →
       (r.state.expect ≡ expects.End) ⊎ (r.state.expect ≢ expects.End) → query_at_end (length text) r ≡ Err fault → IsFaultOf text fault
   end-is_fault fault r free same (inl at_end) e = absurd (Ok-not-Err (query_of r.labelled) fault (query_at_end (length text) r) (ends (length text) r at_end) e)
   end-is_fault fault r free same (inr going) e =
@@ -141,59 +141,59 @@ module _ (text : List ℕ) (utf8 : IsUtf8 text) where
       grammar-is_fault fault [] r free split (end-stops (tokens_read text) r free.reads split going)
       (Err-one fault (faults.Syntax (length text)) (query_at_end (length text) r) e (goes_on (length text) r going))
 
-  read-is_fault : (fault : QueryFault) (read : Result Reading QueryFault) → Stands (tokens_read text) read → reading-of-text text read ≡ Err fault → IsFaultOf text fault
+  read-is_fault : (fault : QueryFault) (read : Result Progress QueryFault) → Stands (tokens_read text) read → reading-of-text text read ≡ Err fault → IsFaultOf text fault
   read-is_fault fault (Ok r) (free, same) e = end-is_fault fault r free same (is-end r.state.expect) e
   read-is_fault fault (Err other) (inl own) e = own-is_fault fault (subst (HasOwnFault (tokens_read text)) (Err-one other fault (Err other) refl e) own)
   read-is_fault fault (Err other) (inr stop) e = stop-is_fault fault (subst (StopsWith (tokens_read text)) (Err-one other fault (Err other) refl e) stop)
 
 -- what the run has read where it stops
-same-reading : (a b : Reading) (read : Option Reading) → read ≡ Some a → read ≡ Some b → a ≡ b
+same-reading : (a b : Progress) (read : Option Progress) → read ≡ Some a → read ≡ Some b → a ≡ b
 same-reading a b read is other = let both : Some a ≡ Some b = sym is ∙ other in cc
 
-stop-unread : (tokens behind : List Lexeme) (token : Lexeme) (r : Reading) → Reads r.state start r.labelled → tokens ≡ tokens_of r.labelled ++ token ∷ behind →
+stop-unread : (tokens after : List Lexeme) (token : Lexeme) (r : Progress) → Reads r.state start r.labelled → tokens ≡ tokens_of r.labelled ++ token ∷ after →
     StopsAt tokens (length r.labelled) → (step : Option Step) → next_step r.state (terminal_of token) ≡ step → next_step r.state (terminal_of token) ≡ None
-stop-unread tokens behind token r reads split stop None is = is
-stop-unread tokens behind token r reads split stop (Some step) is =
+stop-unread tokens after token r reads split stop None is = is
+stop-unread tokens after token r reads split stop (Some step) is =
     let one : Reads step.state r.state (with_role step.role token ∷ []) = (step.state, is, refl) in
     let ls = r.labelled ++ with_role step.role token ∷ [] in
     let run = read-last (tokens_of r.labelled) token start r step (reads-run r.labelled r.state start reads) is in
     let more : read_tokens start (take (suc (length r.labelled)) tokens) ≡ Some (reading_at ls step.state) =
     ap (λ n. read_tokens start (take (suc n) tokens)) (sym (length-tokens r.labelled))
-    ∙ ap (read_tokens start) (front-more tokens (tokens_of r.labelled) behind token split)
+    ∙ ap (read_tokens start) (front-more tokens (tokens_of r.labelled) after token split)
     ∙ run in
     elim stop.stops [
       | inl inside ↦ (let none : read_tokens start (take (suc (length r.labelled)) tokens) ≡ None = inside.1 in let both : None ≡ Some (reading_at ls step.state) = sym none ∙ more in absurd (cc))
-      | inr at_end ↦ (let e : length r.labelled ≡ length tokens = at_end.0 in absurd (omega (arith, ap length split, length-append (tokens_of r.labelled) (token ∷ behind), length-tokens r.labelled)))
+      | inr at_end ↦ (let e : length r.labelled ≡ length tokens = at_end.0 in absurd (omega (arith, ap length split, length-append (tokens_of r.labelled) (token ∷ after), length-tokens r.labelled)))
     ]
 
-stop-going : (tokens : List Lexeme) (r : Reading) → Reads r.state start r.labelled → tokens ≡ tokens_of r.labelled ++ [] → StopsAt tokens (length r.labelled) → r.state.expect ≢ expects.End
+stop-going : (tokens : List Lexeme) (r : Progress) → Reads r.state start r.labelled → tokens ≡ tokens_of r.labelled ++ [] → StopsAt tokens (length r.labelled) → r.state.expect ≢ expects.End
 stop-going tokens r reads split stop =
     elim stop.stops [
       | inl inside ↦ (let lt : length r.labelled < length tokens = inside.0 in absurd (omega (arith, ap length split, length-append (tokens_of r.labelled) [], length-tokens r.labelled)))
-      | inr at_end ↦ (let same : stop.reading ≡ r = same-reading stop.reading r (read_tokens start (take (length r.labelled) tokens)) stop.before (run-before tokens [] r reads split) in subst (λ (x : Reading). x.state.expect ≢ expects.End) same at_end.1)
+      | inr at_end ↦ (let same : stop.reading ≡ r = same-reading stop.reading r (read_tokens start (take (length r.labelled) tokens)) stop.before (run-before tokens [] r reads split) in subst (λ (x : Progress). x.state.expect ≢ expects.End) same at_end.1)
     ]
 
 -- tokens that are without a fault are read
-front-read : (ls : List Labelled) (s : State) (behind tokens : List Lexeme) → Reads s start ls → HasNoFaults ls → tokens ≡ tokens_of ls ++ behind → read_on first tokens ≡ read_on (reading_at ls s) behind
-front-read ls s behind tokens reads none split =
-    ap (read_on first) split ∙ read_on-append (tokens_of ls) behind first (reading_at ls s) (fault_free-read ls [] start s reads none)
+front-read : (ls : List Labelled) (s : State) (after tokens : List Lexeme) → Reads s start ls → HasNoFaults ls → tokens ≡ tokens_of ls ++ after → read_on first tokens ≡ read_on (reading_at ls s) after
+front-read ls s after tokens reads none split =
+    ap (read_on first) split ∙ read_on-append (tokens_of ls) after first (reading_at ls s) (fault_free-read ls [] start s reads none)
 
 own-read : (tokens : List Lexeme) (fault : QueryFault) → HasOwnFault tokens fault → read_on first tokens ≡ Err fault
 own-read tokens fault own =
     let (last, reads) = begins-reads (own.before ++ own.token ∷ []) own.begins in
     let (s, front, (next, is, e)) = reads-split own.before (own.token ∷ []) last start reads in
-    front-read own.before s (own.token.token ∷ own.behind) tokens front own.none_before (own.split ∙ more-tokens own.before own.token own.behind)
-    ∙ read_on-fault (reading_at own.before s) fault own.token.token own.behind (next-fault (reading_at own.before s) own.token.token (step_of next own.token.role) fault is own.is_fault)
+    front-read own.before s (own.token.token ∷ own.after) tokens front own.none_before (own.split ∙ more-tokens own.before own.token own.after)
+    ∙ read_on-fault (reading_at own.before s) fault own.token.token own.after (next-fault (reading_at own.before s) own.token.token (step_of next own.token.role) fault is own.is_fault)
 
-grammar-read : (size : ℕ) (tokens behind : List Lexeme) (ls : List Labelled) (s : State) → Reads s start ls → HasNoFaults ls → tokens ≡ tokens_of ls ++ behind → StopsAt tokens (length ls) →
-    and_then (query_at_end size) (read_on first tokens) ≡ Err (grammar_fault size behind)
+grammar-read : (size : ℕ) (tokens after : List Lexeme) (ls : List Labelled) (s : State) → Reads s start ls → HasNoFaults ls → tokens ≡ tokens_of ls ++ after → StopsAt tokens (length ls) →
+    and_then (query_at_end size) (read_on first tokens) ≡ Err (grammar_fault size after)
 grammar-read size tokens [] ls s reads none split stop =
     ap (and_then (query_at_end size)) (front-read ls s [] tokens reads none split ∙ read_on-all (reading_at ls s))
     ∙ goes_on size (reading_at ls s) (stop-going tokens (reading_at ls s) reads split stop)
-grammar-read size tokens (token ∷ behind) ls s reads none split stop =
-    let unread = stop-unread tokens behind token (reading_at ls s) reads split stop (next_step s (terminal_of token)) refl in
+grammar-read size tokens (token ∷ after) ls s reads none split stop =
+    let unread = stop-unread tokens after token (reading_at ls s) reads split stop (next_step s (terminal_of token)) refl in
     let fault = word_fault token.at (unsupported_word token) in
-    ap (and_then (query_at_end size)) (front-read ls s (token ∷ behind) tokens reads none split ∙ read_on-fault (reading_at ls s) fault token behind (next-unread (reading_at ls s) token unread))
+    ap (and_then (query_at_end size)) (front-read ls s (token ∷ after) tokens reads none split ∙ read_on-fault (reading_at ls s) fault token after (next-unread (reading_at ls s) token unread))
 
 -- a text is UTF-8 or not
 utf8-or-not : (text : List ℕ) → IsUtf8 text ⊎ ¬ IsUtf8 text
@@ -235,5 +235,5 @@ fault-reading text fault (IsFaultOf.of_grammar tokens utf8 are has) =
     let (s, reads) = begins-reads has.before has.begins in
     good-reading text utf8
     ∙ text-read text tokens (read_on first tokens) are refl
-    ∙ grammar-read (length text) tokens has.behind has.before s reads has.none_before has.split (HasFaultAt-StopsAt tokens (length has.before) has.at)
+    ∙ grammar-read (length text) tokens has.after has.before s reads has.none_before has.split (HasFaultAt-StopsAt tokens (length has.before) has.at)
     ∙ ap Err (sym has.is_fault)

@@ -64,7 +64,7 @@ built-next scope s (l ∷ ls) =
     let count = count-cons is_object l ls in
     omega arith
 
--- the number of the next triple pattern behind some of the tokens
+-- the number of the next triple pattern after some of the tokens
 pub next-bound : (scope : Scope) (s : State) (ls : List Labelled) (i : ℕ) → (built scope s (take i ls)).body.next ≤ next_settled s + count_of is_object ls
 next-bound scope s ls i =
     let a = built-next scope s (take i ls) in

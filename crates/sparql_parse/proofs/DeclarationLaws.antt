@@ -84,7 +84,7 @@ namespaces_of-from : (ls : List Labelled) → namespaces_of ls ≡ declared_from
 unfolding declarations_of
 namespaces_of-from ls = after_all-namespaces ls no_declarations
 
--- the last declaration of a prefix, in two parts
+-- the last declaration of a prefix, in two elements
 map-or : (a b : Option Namespace) → option_map (λ n. n.iri) (option_or a b) ≡ option_or (option_map (λ n. n.iri) a) (option_map (λ n. n.iri) b)
 map-or None b = refl
 map-or (Some n) b = refl

@@ -282,7 +282,7 @@ own-computed text tokens fault utf8 are own =
     record {
       before = own.before;
       token = own.token;
-      behind = own.after;
+      after = own.after;
       split = own.split;
       begins = own.begins;
       none_before = none-computed own.before (AreProper-front own.before (own.token ∷ []) all) own.none_before;
@@ -292,11 +292,11 @@ own-computed text tokens fault utf8 are own =
 computed-own : (text : List ℕ) (tokens : List Lexeme) (fault : QueryFault) → IsUtf8 text → AreTokens text tokens → computed.HasOwnFault tokens fault → HasOwnFault tokens fault
 computed-own text tokens fault utf8 are own =
     let (last, reads) = begins-reads (own.before ++ own.token ∷ []) own.begins in
-    let all = front-proper text tokens own.behind (own.before ++ own.token ∷ []) last utf8 are own.split reads in
+    let all = front-proper text tokens own.after (own.before ++ own.token ∷ []) last utf8 are own.split reads in
     record {
       before = own.before;
       token = own.token;
-      after = own.behind;
+      after = own.after;
       split = own.split;
       begins = own.begins;
       none_before = computed-none own.before (AreProper-front own.before (own.token ∷ []) all) own.none_before;
@@ -307,13 +307,13 @@ grammar-computed : (text : List ℕ) (tokens : List Lexeme) (fault : QueryFault)
 grammar-computed text tokens fault utf8 are has =
     let (last, reads) = begins-reads has.before has.begins in
     let all = front-proper text tokens has.after has.before last utf8 are has.split reads in
-    record { before = has.before; behind = has.after; split = has.split; begins = has.begins; none_before = none-computed has.before all has.none_before; at = has.at; is_fault = has.is_fault }
+    record { before = has.before; after = has.after; split = has.split; begins = has.begins; none_before = none-computed has.before all has.none_before; at = has.at; is_fault = has.is_fault }
 
 computed-grammar : (text : List ℕ) (tokens : List Lexeme) (fault : QueryFault) → IsUtf8 text → AreTokens text tokens → computed.HasGrammarFault text tokens fault → HasGrammarFault text tokens fault
 computed-grammar text tokens fault utf8 are has =
     let (last, reads) = begins-reads has.before has.begins in
-    let all = front-proper text tokens has.behind has.before last utf8 are has.split reads in
-    record { before = has.before; after = has.behind; split = has.split; begins = has.begins; none_before = computed-none has.before all has.none_before; at = has.at; is_fault = has.is_fault }
+    let all = front-proper text tokens has.after has.before last utf8 are has.split reads in
+    record { before = has.before; after = has.after; split = has.split; begins = has.begins; none_before = computed-none has.before all has.none_before; at = has.at; is_fault = has.is_fault }
 
 fault-computed : (text : List ℕ) (fault : QueryFault) → IsFaultOf text fault → computed.IsFaultOf text fault
 fault-computed text fault (IsFaultOf.not_utf8 good up is) = computed.IsFaultOf.not_utf8 good up is

@@ -27,11 +27,11 @@ last-or-before (z ∷ zs) y (f ∷ front) x back e =
     ]
 
 pub none-nothing : HasNoFaults []
-none-nothing before behind l e = absurd (omega (arith, ap length e, length-append before (l ∷ behind)))
+none-nothing before after l e = absurd (omega (arith, ap length e, length-append before (l ∷ after)))
 
 pub none-more : (ls : List Labelled) (l : Labelled) → HasNoFaults ls → fault_of ls l ≡ None → HasNoFaults (ls ++ l ∷ [])
-none-more ls l none own before behind x e =
-    elim (last-or-before ls l before x behind e) [
+none-more ls l none own before after x e =
+    elim (last-or-before ls l before x after e) [
       | inl last ↦ ap (λ b. fault_of b x) last.1 ∙ ap (fault_of ls) last.2 ∙ own
       | inr inside ↦ none before inside.0 x inside.1
     ]

@@ -7,7 +7,7 @@ use Rattle.query_grammar.specs.declared.expect.Step.{Step}
 use Rattle.query_grammar.specs.Terminals.{terminal_of}
 use Rattle.query_grammar.specs.Words.{unsupported_word}
 use Rattle.query_grammar.specs.Roles.{Labelled, with_role, tokens_of}
-use Rattle.query_grammar.specs.Expecting.{start, next_step, Reading}
+use Rattle.query_grammar.specs.Expecting.{start, next_step, Progress}
 use Rattle.query_grammar.proofs.Carrying.{Reads, step_of}
 use Rattle.query_grammar.proofs.Runs.{reads-run, run-reads, reads-append}
 use Rattle.query_grammar.proofs.GrammarLaws.{front-run, read-front_of_query}
@@ -20,21 +20,21 @@ use Rattle.sparql_parse.proofs.FaultFree.{none-more}
 use Rattle.sparql_parse.proofs.ReadingLaws.{reading_at, reading_after, next-unread, next-read, next-fault, read_on-more, read_on-fault, read_on-all}
 
 -- what is read begins a query, and no token of it has a fault
-pub record IsFaultFree (r : Reading) : Type 0 where
+pub record IsFaultFree (r : Progress) : Type 0 where
   pub reads : Reads r.state start r.labelled
   pub none : HasNoFaults r.labelled
 
 pub reads-begins : (ls : List Labelled) (last : State) → Reads last start ls → BeginsSo ls
 reads-begins ls last reads =
-    let (behind, tree, query) = read-front_of_query (tokens_of ls) (reading_at ls last) (reads-run ls last start reads) in
-    record { after = behind; tree = tree; is_query = query }
+    let (after, tree, query) = read-front_of_query (tokens_of ls) (reading_at ls last) (reads-run ls last start reads) in
+    record { after = after; tree = tree; is_query = query }
 
 pub begins-reads : (ls : List Labelled) → BeginsSo ls → (last : State) × Reads last start ls
 begins-reads ls begins =
     let (last, run) = front-run begins.tree ls begins.after begins.is_query in
     (last, (run-reads (tokens_of ls) start (reading_at ls last) run).reads)
 
--- tokens without a fault, behind others
+-- tokens without a fault, after others
 pub fault_free-read : (ls before : List Labelled) (s last : State) → Reads last s ls → HasNoFaults (before ++ ls) →
     read_on (reading_at before s) (tokens_of ls) ≡ Ok (reading_at (before ++ ls) last)
 fault_free-read [] before s last e none =
@@ -46,12 +46,12 @@ fault_free-read (l ∷ ls) before s last (next, is, rest) none =
     ∙ ap (λ xs. Ok (reading_at xs last)) assoc
 
 -- some tokens are read, and then the others
-append-next : (front back : List Lexeme) (r next : Reading) (token : Lexeme) → ((one : Reading) → read_on one front ≡ Ok next → read_on one (front ++ back) ≡ read_on next back) →
-    read_on r (token ∷ front) ≡ Ok next → (one : Result Reading QueryFault) → read_next r token ≡ one → read_on r (token ∷ front ++ back) ≡ read_on next back
+append-next : (front back : List Lexeme) (r next : Progress) (token : Lexeme) → ((one : Progress) → read_on one front ≡ Ok next → read_on one (front ++ back) ≡ read_on next back) →
+    read_on r (token ∷ front) ≡ Ok next → (one : Result Progress QueryFault) → read_next r token ≡ one → read_on r (token ∷ front ++ back) ≡ read_on next back
 append-next front back r next token rest e (Ok one) is = read_on-more r one token (front ++ back) is ∙ rest one (sym (read_on-more r one token front is) ∙ e)
 append-next front back r next token rest e (Err fault) is = let both : Err fault ≡ Ok next = sym (read_on-fault r fault token front is) ∙ e in absurd (cc)
 
-pub read_on-append : (front back : List Lexeme) (r next : Reading) → read_on r front ≡ Ok next → read_on r (front ++ back) ≡ read_on next back
+pub read_on-append : (front back : List Lexeme) (r next : Progress) → read_on r front ≡ Ok next → read_on r (front ++ back) ≡ read_on next back
 read_on-append [] back r next e =
     let both : Ok r ≡ Ok next = sym (read_on-all r) ∙ e in
     let same : r ≡ next = cc in
@@ -60,16 +60,16 @@ read_on-append (token ∷ front) back r next e = append-next front back r next t
 
 -- the token at which no query goes on, and what is read before it
 pub record StopsWith (tokens : List Lexeme) (fault : QueryFault) : Type 0 where
-  pub reading : Reading
+  pub reading : Progress
   pub token : Lexeme
-  pub behind : List Lexeme
+  pub after : List Lexeme
   pub fault_free : IsFaultFree reading
-  pub split : tokens ≡ tokens_of reading.labelled ++ token ∷ behind
+  pub split : tokens ≡ tokens_of reading.labelled ++ token ∷ after
   pub unread : next_step reading.state (terminal_of token) ≡ None
   pub is_fault : fault ≡ word_fault token.at (unsupported_word token)
 
 -- what is read of tokens: all, or up to a fault
-abbrev pub Stands : List Lexeme → Result Reading QueryFault → Type 0
+abbrev pub Stands : List Lexeme → Result Progress QueryFault → Type 0
 Stands tokens (Ok reading) = IsFaultFree reading × (tokens_of reading.labelled ≡ tokens)
 Stands tokens (Err fault) = HasOwnFault tokens fault ⊎ StopsWith tokens fault
 
@@ -77,15 +77,15 @@ pub more-tokens : (ls : List Labelled) (l : Labelled) (tokens : List Lexeme) →
 more-tokens ls l tokens =
     ap (λ xs. xs ++ tokens) (map-append (λ (m : Labelled). m.token) ls (l ∷ [])) ∙ append_assoc (tokens_of ls) (l.token ∷ []) tokens
 
-reads-more : (r : Reading) (token : Lexeme) (step : Step) → IsFaultFree r → next_step r.state (terminal_of token) ≡ Some step →
+reads-more : (r : Progress) (token : Lexeme) (step : Step) → IsFaultFree r → next_step r.state (terminal_of token) ≡ Some step →
     Reads step.state start (r.labelled ++ with_role step.role token ∷ [])
 reads-more r token step free is =
     let one : Reads step.state r.state (with_role step.role token ∷ []) = (step.state, is, refl) in
     reads-append r.labelled (with_role step.role token ∷ []) step.state r.state start free.reads one
 
-module _ (all tokens : List Lexeme) (r : Reading) (token : Lexeme) (free : IsFaultFree r) (split : all ≡ tokens_of r.labelled ++ token ∷ tokens) where
+module _ (all tokens : List Lexeme) (r : Progress) (token : Lexeme) (free : IsFaultFree r) (split : all ≡ tokens_of r.labelled ++ token ∷ tokens) where
   abbrev Rest : Type 0
-  Rest = (next : Reading) → IsFaultFree next → all ≡ tokens_of next.labelled ++ tokens → Stands all (read_on next tokens)
+  Rest = (next : Progress) → IsFaultFree next → all ≡ tokens_of next.labelled ++ tokens → Stands all (read_on next tokens)
 
   own-stands : Rest → (step : Step) → next_step r.state (terminal_of token) ≡ Some step → (own : Option QueryFault) → fault_of r.labelled (with_role step.role token) ≡ own → Stands all (read_on r (token ∷ tokens))
   own-stands rest step is None none = subst (Stands all) (sym (read_on-more r (reading_after r token step) token tokens (next-read r token step is none)))
@@ -94,7 +94,7 @@ module _ (all tokens : List Lexeme) (r : Reading) (token : Lexeme) (free : IsFau
       (inl (record {
         before = r.labelled;
         token = with_role step.role token;
-        behind = tokens;
+        after = tokens;
         split = split ∙ sym (more-tokens r.labelled (with_role step.role token) tokens);
         begins = reads-begins (r.labelled ++ with_role step.role token ∷ []) step.state (reads-more r token step free is);
         none_before = free.none;
@@ -106,9 +106,9 @@ module _ (all tokens : List Lexeme) (r : Reading) (token : Lexeme) (free : IsFau
   step-stands rest None is =
       let fault = word_fault token.at (unsupported_word token) in
       subst (Stands all) (sym (read_on-fault r fault token tokens (next-unread r token is)))
-      (inr (record { reading = r; token = token; behind = tokens; fault_free = free; split = split; unread = is; is_fault = refl }))
+      (inr (record { reading = r; token = token; after = tokens; fault_free = free; split = split; unread = is; is_fault = refl }))
 
-pub read-stands : (tokens all : List Lexeme) (r : Reading) → IsFaultFree r → all ≡ tokens_of r.labelled ++ tokens → Stands all (read_on r tokens)
+pub read-stands : (tokens all : List Lexeme) (r : Progress) → IsFaultFree r → all ≡ tokens_of r.labelled ++ tokens → Stands all (read_on r tokens)
 read-stands [] all r free split = subst (Stands all) (sym (read_on-all r)) (free, sym (split ∙ append-nil (tokens_of r.labelled)))
 read-stands (token ∷ tokens) all r free split =
     step-stands all tokens r token free split (λ next next_free next_split. read-stands tokens all next next_free next_split) (next_step r.state (terminal_of token)) refl

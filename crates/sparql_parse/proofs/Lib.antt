@@ -18,7 +18,7 @@ mod NameRelations
 mod NameTexts
 mod NamesDiffer
 mod NamespaceLaws
-mod NamingLaws
+mod SymbolLaws
 mod NodeLaws
 mod NumberLaws
 mod PatternLaws

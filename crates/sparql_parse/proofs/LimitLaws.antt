@@ -1,5 +1,5 @@
 -- The limits of what a syntax tree means: triple patterns are numbered from 1 in the order of the text, at most as
--- many as objects, and at most as many parts are optional as there are OPTIONALs.
+-- many as objects, and at most as many elements are optional as there are OPTIONALs.
 use Rattle.std.proofs.Common.{◌≡◌, ℕ, ◌+◌, ◌≤◌, Bool, true, false, List, [], ◌∷◌, ◌++◌, map, length, Option, Some, None, refl, ap, subst, arith, length-append}
 use Rattle.std.specs.List.{range_with_len}
 use Rattle.query_tokens.specs.Token.{Lexeme}
@@ -8,13 +8,13 @@ use Rattle.query_grammar.specs.declared.syntax.Role.{Role}
 use Rattle.query_grammar.specs.declared.syntax.Role.TheVariants as roles
 use Rattle.query_grammar.specs.Terminals.{terminal_of}
 use Rattle.query_grammar.specs.Roles.{Labelled, count_of}
-use Rattle.query_grammar.specs.Tree.{Node, Same, Parts, NoParts, OptionalPart, NestedPart, Group, Syntax}
+use Rattle.query_grammar.specs.Tree.{Node, Same, Elements, EndOfGroup, Element, OptionalGroup, NestedGroup, Group, Syntax}
 use Rattle.query_grammar.specs.Grammar.{IsQuery}
 use Rattle.query_grammar.proofs.Counts.{one_if, count-cons}
 use Rattle.alg_model.specs.declared.pattern.TriplePat.{TriplePat}
 use Rattle.alg_model.specs.Pattern.{Algebra, Join, LeftJoin, triple_patterns, optional_parts}
 use Rattle.sparql_parse.specs.Faults.{is_object, is_optional}
-use Rattle.sparql_parse.specs.computed.Meaning.{Scope, Translated, patterns_from, empty_group, with_block, with_parts, pattern_of}
+use Rattle.sparql_parse.specs.computed.Meaning.{Scope, Translated, patterns_from, empty_group, with_block, with_elements, pattern_of}
 use Rattle.sparql_parse.specs.Translation.{NodeTriple, triples_of_block}
 use Rattle.sparql_parse.specs.computed.Building.{State, Body, OpenGroup, step, in_role, built, start, with_object, body_of, closed_groups, amended, in_innermost, joined_block, pattern_so_far, combined, with_tag, with_datatype}
 use Rattle.sparql_parse.proofs.Counting.{built-next}
@@ -51,9 +51,9 @@ pub record IsNumbered (m : ℕ) (g : Translated) : Type 0 where
 empty-numbered : (n : ℕ) → IsNumbered n (empty_group n)
 empty-numbered n = record { numbers = tt; next = omega arith }
 
--- what is put behind a group
-behind-numbered : (m : ℕ) (g : Translated) (ts : List TriplePat) → IsNumbered m g → AreNumbered g.next ts → AreNumbered m (triple_patterns g.pattern ++ ts)
-behind-numbered m g ts is back = AreNumbered-append m (triple_patterns g.pattern) ts is.numbers (subst (λ (n : ℕ). AreNumbered n ts) is.next back)
+-- what is put after a group
+after-numbered : (m : ℕ) (g : Translated) (ts : List TriplePat) → IsNumbered m g → AreNumbered g.next ts → AreNumbered m (triple_patterns g.pattern ++ ts)
+after-numbered m g ts is back = AreNumbered-append m (triple_patterns g.pattern) ts is.numbers (subst (λ (n : ℕ). AreNumbered n ts) is.next back)
 
 module _ (scope : Scope) where
   block-numbered : (m : ℕ) (g : Translated) (block : List Same) → IsNumbered m g → IsNumbered m (with_block scope g block)
@@ -63,30 +63,30 @@ module _ (scope : Scope) where
       let ps = patterns_from scope g.next ts in
       let a = length-append (triple_patterns g.pattern) ps in
       let b = length-patterns_from scope g.next ts in
-      record { numbers = behind-numbered m g ps is (patterns_from-numbered scope g.next ts); next = omega (arith, is.next, a, b) }
+      record { numbers = after-numbered m g ps is (patterns_from-numbered scope g.next ts); next = omega (arith, is.next, a, b) }
 
   element-numbered : (m : ℕ) (g inner : Translated) → IsNumbered m g → IsNumbered g.next inner → AreNumbered m (triple_patterns g.pattern ++ triple_patterns inner.pattern) × (inner.next ≡ m + length (triple_patterns g.pattern ++ triple_patterns inner.pattern))
   element-numbered m g inner outer_is inner_is =
       let a = length-append (triple_patterns g.pattern) (triple_patterns inner.pattern) in
-      (behind-numbered m g (triple_patterns inner.pattern) outer_is inner_is.numbers, omega (arith, outer_is.next, inner_is.next, a))
+      (after-numbered m g (triple_patterns inner.pattern) outer_is inner_is.numbers, omega (arith, outer_is.next, inner_is.next, a))
 
-  parts-numbered : (m : ℕ) (g : Translated) (parts : Parts) → IsNumbered m g → IsNumbered m (with_parts scope g parts)
-  parts-numbered m g NoParts is = is
-  parts-numbered m g (OptionalPart block parts next rest) is =
-      let inner = with_parts scope (with_block scope (empty_group g.next) block) parts in
-      let deep = parts-numbered g.next (with_block scope (empty_group g.next) block) parts (block-numbered g.next (empty_group g.next) block (empty-numbered g.next)) in
+  elements-numbered : (m : ℕ) (g : Translated) (elements : Elements) → IsNumbered m g → IsNumbered m (with_elements scope g elements)
+  elements-numbered m g EndOfGroup is = is
+  elements-numbered m g (Element OptionalGroup block elements next rest) is =
+      let inner = with_elements scope (with_block scope (empty_group g.next) block) elements in
+      let deep = elements-numbered g.next (with_block scope (empty_group g.next) block) elements (block-numbered g.next (empty_group g.next) block (empty-numbered g.next)) in
       let both = element-numbered m g inner is deep in
-      let behind : Translated = record { pattern = LeftJoin g.pattern inner.pattern; next = inner.next } in
-      parts-numbered m (with_block scope behind next) rest (block-numbered m behind next (record { numbers = both.0; next = both.1 }))
-  parts-numbered m g (NestedPart block parts next rest) is =
-      let inner = with_parts scope (with_block scope (empty_group g.next) block) parts in
-      let deep = parts-numbered g.next (with_block scope (empty_group g.next) block) parts (block-numbered g.next (empty_group g.next) block (empty-numbered g.next)) in
+      let after : Translated = record { pattern = LeftJoin g.pattern inner.pattern; next = inner.next } in
+      elements-numbered m (with_block scope after next) rest (block-numbered m after next (record { numbers = both.0; next = both.1 }))
+  elements-numbered m g (Element NestedGroup block elements next rest) is =
+      let inner = with_elements scope (with_block scope (empty_group g.next) block) elements in
+      let deep = elements-numbered g.next (with_block scope (empty_group g.next) block) elements (block-numbered g.next (empty_group g.next) block (empty-numbered g.next)) in
       let both = element-numbered m g inner is deep in
-      let behind : Translated = record { pattern = Join g.pattern inner.pattern; next = inner.next } in
-      parts-numbered m (with_block scope behind next) rest (block-numbered m behind next (record { numbers = both.0; next = both.1 }))
+      let after : Translated = record { pattern = Join g.pattern inner.pattern; next = inner.next } in
+      elements-numbered m (with_block scope after next) rest (block-numbered m after next (record { numbers = both.0; next = both.1 }))
 
-  pub group-numbered : (group : Group) → IsNumbered 1 (with_parts scope (with_block scope (empty_group 1) group.block) group.parts)
-  group-numbered group = parts-numbered 1 (with_block scope (empty_group 1) group.block) group.parts (block-numbered 1 (empty_group 1) group.block (empty-numbered 1))
+  pub group-numbered : (group : Group) → IsNumbered 1 (with_elements scope (with_block scope (empty_group 1) group.block) group.elements)
+  group-numbered group = elements-numbered 1 (with_block scope (empty_group 1) group.block) group.elements (block-numbered 1 (empty_group 1) group.block (empty-numbered 1))
 
 -- OPTIONALs: those of the patterns so far, the open groups that are OPTIONAL, and one that is read before its group
 abbrev group_optionals : OpenGroup → ℕ

@@ -2,14 +2,14 @@
 use Rattle.std.proofs.Common.{◌≡◌, inr, inl, ℕ, ◌==◌, List, [], ◌∷◌, length, codes, refl, sym, ap, subst, arith, length-append}
 use Rattle.std.specs.Str.{chars}
 use Rattle.rdf_text.specs.Classes.{is_sparql_label_first, is_sparql_pn_chars_u, is_pn_chars_base}
-use Rattle.query_tokens.specs.Marks.{question_mark}
+use Rattle.rdf_text.specs.Marks.{question_mark}
 use Rattle.query_tokens.specs.Token.{Lexeme}
 use Rattle.query_tokens.specs.Variables.{IsVariableName}
 use Rattle.query_tokens.specs.declared.token.TokenKind.{TokenKind}
 use Rattle.query_tokens.specs.declared.token.TokenKind.TheVariants as kinds
 use Rattle.query_grammar.specs.declared.syntax.Role.TheVariants as roles
 use Rattle.query_grammar.specs.Roles.{with_role}
-use Rattle.query_grammar.specs.Tree.{NoParts, OptionalPart, NestedPart}
+use Rattle.query_grammar.specs.Tree.{EndOfGroup, Element, OptionalGroup, NestedGroup}
 use Rattle.query_values.specs.Iris.{SpellsPrefix}
 use Rattle.query_values.specs.Variables.{SpellsVariable}
 use Rattle.query_values.proofs.TokenLaws.{ascii_chars}
@@ -24,11 +24,11 @@ abbrev token : TokenKind → List ℕ → Lexeme
 token kind text = record { kind = kind; text = text; at = 7 }
 
 -- `{ OPTIONAL { } }`
-an_optional_group : translated (record { block = []; parts = OptionalPart [] NoParts [] NoParts }) ≡ NodeLeftJoin (NodeBgp []) (NodeBgp [])
+an_optional_group : translated (record { block = []; elements = Element OptionalGroup [] EndOfGroup [] EndOfGroup }) ≡ NodeLeftJoin (NodeBgp []) (NodeBgp [])
 an_optional_group = refl
 
 -- `{ { OPTIONAL { } } }`: the OPTIONAL stays in its group
-an_optional_group_in_a_group : translated (record { block = []; parts = NestedPart [] (OptionalPart [] NoParts [] NoParts) [] NoParts }) ≡ NodeJoin (NodeBgp []) (NodeLeftJoin (NodeBgp []) (NodeBgp []))
+an_optional_group_in_a_group : translated (record { block = []; elements = Element NestedGroup [] (Element OptionalGroup [] EndOfGroup [] EndOfGroup) [] EndOfGroup }) ≡ NodeJoin (NodeBgp []) (NodeLeftJoin (NodeBgp []) (NodeBgp []))
 an_optional_group_in_a_group = refl
 
 each_in_the_order_of_first_occurrence : each_once ◌==◌ (3 ∷ 1 ∷ 3 ∷ 2 ∷ 1 ∷ []) ≡ 3 ∷ 1 ∷ 2 ∷ []

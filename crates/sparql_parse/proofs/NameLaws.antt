@@ -11,7 +11,7 @@ use Rattle.query_grammar.specs.Roles.{Labelled}
 use Rattle.query_values.specs.reading.Values.{name_of}
 use Rattle.sparql_parse.specs.computed.Names.{is_text, names_after}
 use Rattle.sparql_parse.specs.computed.Faults.{is_unknown, Counts, limit_among}
-use Rattle.sparql_parse.specs.computed.Naming.{Kept, kept_after, counts_with, fault_after, is_new_name, IsWithin}
+use Rattle.sparql_parse.specs.computed.Symbols.{Symbols, symbols_after, counts_with, fault_after, is_new_name, IsWithin}
 
 lt-suc : (n m : ℕ) → nat_lt (1 + n) (suc m) ≡ nat_lt n m
 lt-suc n m = grind (arith, nat_tests)
@@ -54,14 +54,14 @@ pub names-old : (names : List (List ℕ)) (terminal : Terminal) (token : Lexeme)
 names-old names terminal token e = names-put names terminal token ∙ ap (λ b. name_put b names (name_of token)) e
 
 -- the fault of a token: its prefix comes first, and then the limits
-abbrev pub counts_after : Kept → ℕ → Labelled → Counts
-counts_after k depth l = counts_with (length (kept_after k l).names) (kept_after k l).tally depth
+abbrev pub counts_after : Symbols → ℕ → Labelled → Counts
+counts_after k depth l = counts_with (length (symbols_after k l).names) (symbols_after k l).tally depth
 
-pub fault-unknown : (k : Kept) (depth : ℕ) (l : Labelled) → is_unknown k.declarations.namespaces l ≡ true → fault_after k depth l ≡ Some (faults.UnknownPrefix l.token.at)
+pub fault-unknown : (k : Symbols) (depth : ℕ) (l : Labelled) → is_unknown k.declarations.namespaces l ≡ true → fault_after k depth l ≡ Some (faults.UnknownPrefix l.token.at)
 unfolding fault_after
 fault-unknown k depth l e = ap (λ b. if b then Some (faults.UnknownPrefix l.token.at) else limit_among l.token.at (counts_after k depth l)) e
 
-pub fault-limit : (k : Kept) (depth : ℕ) (l : Labelled) → is_unknown k.declarations.namespaces l ≡ false → fault_after k depth l ≡ limit_among l.token.at (counts_after k depth l)
+pub fault-limit : (k : Symbols) (depth : ℕ) (l : Labelled) → is_unknown k.declarations.namespaces l ≡ false → fault_after k depth l ≡ limit_among l.token.at (counts_after k depth l)
 unfolding fault_after
 fault-limit k depth l e = ap (λ b. if b then Some (faults.UnknownPrefix l.token.at) else limit_among l.token.at (counts_after k depth l)) e
 
@@ -72,16 +72,16 @@ within at c none = (grind (arith, nat_tests), grind (arith, nat_tests), grind (a
 shallow : (at : ℕ) (c : Counts) → limit_among at c ≡ None → c.depth ≤ 32
 shallow at c none = grind (arith, nat_tests)
 
-pub no_fault-shallow : (k : Kept) (depth : ℕ) (l : Labelled) → fault_after k depth l ≡ None → depth ≤ 32
+pub no_fault-shallow : (k : Symbols) (depth : ℕ) (l : Labelled) → fault_after k depth l ≡ None → depth ≤ 32
 no_fault-shallow k depth l none =
     elim (is_unknown k.declarations.namespaces l) as (λ b. is_unknown k.declarations.namespaces l ≡ b → depth ≤ 32) [
       | true ↦ λ e. let both = sym (fault-unknown k depth l e) ∙ none in absurd (cc)
       | false ↦ λ e. shallow l.token.at (counts_after k depth l) (sym (fault-limit k depth l e) ∙ none)
     ] refl
 
-pub no_fault-within : (k : Kept) (depth : ℕ) (l : Labelled) → fault_after k depth l ≡ None → IsWithin (kept_after k l).names (kept_after k l).tally
+pub no_fault-within : (k : Symbols) (depth : ℕ) (l : Labelled) → fault_after k depth l ≡ None → IsWithin (symbols_after k l).names (symbols_after k l).tally
 no_fault-within k depth l none =
-    elim (is_unknown k.declarations.namespaces l) as (λ b. is_unknown k.declarations.namespaces l ≡ b → IsWithin (kept_after k l).names (kept_after k l).tally) [
+    elim (is_unknown k.declarations.namespaces l) as (λ b. is_unknown k.declarations.namespaces l ≡ b → IsWithin (symbols_after k l).names (symbols_after k l).tally) [
       | true ↦ λ e. let both = sym (fault-unknown k depth l e) ∙ none in absurd (cc)
       | false ↦ λ e.
           let (names, objects, optionals, groups) = within l.token.at (counts_after k depth l) (sym (fault-limit k depth l e) ∙ none) in

@@ -34,9 +34,9 @@ pub record Agrees (tokens : List Labelled) (scope : Scope) : Type 0 where
   pub stands : (prefix iri : List ℕ) → namespace_of scope.namespaces prefix ≡ Some iri → StandsFor tokens prefix iri
   pub differ : Differ scope.names
 
--- the scope of the definitions
-abbrev pub scope_with : List Labelled → Scope → places_of.Scope
-scope_with tokens scope = record { tokens = tokens; names = scope.names }
+-- the context of the rules
+abbrev pub context_with : List Labelled → Scope → places_of.Context
+context_with tokens scope = record { tokens = tokens; names = scope.names }
 
 -- a token that may stand in a triple pattern: it is spelled, its prefix is declared, and its name is listed
 pub record IsGood (scope : Scope) (l : Labelled) : Type 0 where
@@ -96,7 +96,7 @@ module _ (tokens : List Labelled) (scope : Scope) (agrees : Agrees tokens scope)
   abbrev at_term : (place : Place) (term computed : RdfTerm) → place ≡ places.Term (canonical_text term) → term ≡ computed → place ≡ places.Term (canonical_text computed)
   at_term place term computed is same = is ∙ ap (λ t. places.Term (canonical_text t)) same
 
-  pub place-is : (node : Node) (place : Place) → IsPlaceOf (scope_with tokens scope) node place → place ≡ place_of scope node
+  pub place-is : (node : Node) (place : Place) → IsPlaceOf (context_with tokens scope) node place → place ≡ place_of scope node
   place-is (VariableNode token) place (n, has, is) = is ∙ ap (λ m. places.Var (record { 0 = m })) (sym (HasNumber-is scope.names token n agrees.differ has))
   place-is (IriNode token) place (term, (characters, i, same), is) = at_term place term (iri (iri_in scope token)) is (same ∙ ap iri (iri-is token characters i))
   place-is (StringNode token) place (term, (lexical, s, same), is) = at_term place term (plain_literal token) is (same ∙ ap plain (sym (SpellsLexical-is token lexical s)))
@@ -110,7 +110,7 @@ module _ (tokens : List Labelled) (scope : Scope) (agrees : Agrees tokens scope)
 
   -- a node whose tokens are good has the place that is computed
   abbrev pub HasPlace : Node → Type 0
-  HasPlace node = IsPlaceOf (scope_with tokens scope) node (place_of scope node)
+  HasPlace node = IsPlaceOf (context_with tokens scope) node (place_of scope node)
 
   pub number-of : (l : Labelled) → IsGood scope l → terminal_of l.token ≡ terminals.Variable → HasNumber scope.names l.token (number_of scope.names (name_of l.token))
   number-of l good e = record {

@@ -2,7 +2,7 @@
 use Rattle.std.proofs.Common.{◌≡◌, ℕ, ◌+◌, List, [], ◌∷◌, ◌++◌, map, length, refl, sym, ap, subst, ◌∙◌, arith, length-append}
 use Rattle.std.specs.List.{range_with_len}
 use Rattle.query_grammar.specs.Roles.{Labelled}
-use Rattle.query_grammar.specs.Tree.{Same, Parts, NoParts, OptionalPart, NestedPart, Group}
+use Rattle.query_grammar.specs.Tree.{Same, Elements, EndOfGroup, Element, OptionalGroup, NestedGroup, Group}
 use Rattle.alg_model.specs.declared.pattern.Place.{Place}
 use Rattle.alg_model.specs.declared.pattern.TriplePat.{TriplePat}
 use Rattle.alg_model.specs.Pattern.{Algebra, Bgp, Join, LeftJoin, triple_patterns}
@@ -10,9 +10,9 @@ use Rattle.sparql_parse.specs.computed.Meaning.{Scope, Translated, place_of, pat
 use Rattle.sparql_parse.specs.Translation.{NodeTriple, triples_of_block}
 use Rattle.sparql_parse.specs.computed.Meaning as computed
 use Rattle.sparql_parse.specs.OneByOne.{OneByOne}
-use Rattle.sparql_parse.specs.Translation.{NodePattern, NodeBgp, NodeJoin, NodeLeftJoin, with_block, with_parts, translated, IsTripleOf, IsPatternOf, IsNumbered}
+use Rattle.sparql_parse.specs.Translation.{NodePattern, NodeBgp, NodeJoin, NodeLeftJoin, with_block, with_elements, translated, IsTripleOf, IsPatternOf, IsNumbered}
 use Rattle.sparql_parse.proofs.LimitLaws.{AreNumbered, AreNumbered-range, group-numbered}
-use Rattle.sparql_parse.proofs.NodeLaws.{Agrees, scope_with, place-is}
+use Rattle.sparql_parse.proofs.NodeLaws.{Agrees, context_with, place-is}
 use Rattle.sparql_parse.proofs.QueryNodes.{TriplesPlaces, PatternPlaces}
 
 -- how many triples a pattern has
@@ -50,28 +50,28 @@ module _ (scope : Scope) where
   both-placed n g inner pattern deep f p q =
       (ap (λ a. f a inner.pattern) p.is ∙ ap (f (placed scope n pattern)) (q.is ∙ ap (λ m. placed scope m deep) p.next), omega (arith, p.next, q.next))
 
-  parts-placed : (n : ℕ) (g : Translated) (pattern : NodePattern) (parts : Parts) → IsPlaced scope n g pattern → IsPlaced scope n (computed.with_parts scope g parts) (with_parts pattern parts)
-  parts-placed n g pattern NoParts p = p
-  parts-placed n g pattern (OptionalPart block parts next rest) p =
-      let inner = computed.with_parts scope (computed.with_block scope (empty_group g.next) block) parts in
-      let deep = with_parts (with_block (NodeBgp []) block) parts in
-      let q = parts-placed g.next (computed.with_block scope (empty_group g.next) block) (with_block (NodeBgp []) block) parts (block-placed g.next (empty_group g.next) (NodeBgp []) block (empty-placed g.next)) in
+  elements-placed : (n : ℕ) (g : Translated) (pattern : NodePattern) (elements : Elements) → IsPlaced scope n g pattern → IsPlaced scope n (computed.with_elements scope g elements) (with_elements pattern elements)
+  elements-placed n g pattern EndOfGroup p = p
+  elements-placed n g pattern (Element OptionalGroup block elements next rest) p =
+      let inner = computed.with_elements scope (computed.with_block scope (empty_group g.next) block) elements in
+      let deep = with_elements (with_block (NodeBgp []) block) elements in
+      let q = elements-placed g.next (computed.with_block scope (empty_group g.next) block) (with_block (NodeBgp []) block) elements (block-placed g.next (empty_group g.next) (NodeBgp []) block (empty-placed g.next)) in
       let (is, count) = both-placed n g inner pattern deep LeftJoin p q in
       let after : Translated = record { pattern = LeftJoin g.pattern inner.pattern; next = inner.next } in
-      parts-placed n (computed.with_block scope after next) (with_block (NodeLeftJoin pattern deep) next) rest
+      elements-placed n (computed.with_block scope after next) (with_block (NodeLeftJoin pattern deep) next) rest
       (block-placed n after (NodeLeftJoin pattern deep) next (record { is = is; next = count }))
-  parts-placed n g pattern (NestedPart block parts next rest) p =
-      let inner = computed.with_parts scope (computed.with_block scope (empty_group g.next) block) parts in
-      let deep = with_parts (with_block (NodeBgp []) block) parts in
-      let q = parts-placed g.next (computed.with_block scope (empty_group g.next) block) (with_block (NodeBgp []) block) parts (block-placed g.next (empty_group g.next) (NodeBgp []) block (empty-placed g.next)) in
+  elements-placed n g pattern (Element NestedGroup block elements next rest) p =
+      let inner = computed.with_elements scope (computed.with_block scope (empty_group g.next) block) elements in
+      let deep = with_elements (with_block (NodeBgp []) block) elements in
+      let q = elements-placed g.next (computed.with_block scope (empty_group g.next) block) (with_block (NodeBgp []) block) elements (block-placed g.next (empty_group g.next) (NodeBgp []) block (empty-placed g.next)) in
       let (is, count) = both-placed n g inner pattern deep Join p q in
       let after : Translated = record { pattern = Join g.pattern inner.pattern; next = inner.next } in
-      parts-placed n (computed.with_block scope after next) (with_block (NodeJoin pattern deep) next) rest
+      elements-placed n (computed.with_block scope after next) (with_block (NodeJoin pattern deep) next) rest
       (block-placed n after (NodeJoin pattern deep) next (record { is = is; next = count }))
 
   group-placed : (group : Group) → pattern_of scope group ≡ placed scope 1 (translated group)
   group-placed group =
-      (parts-placed 1 (computed.with_block scope (empty_group 1) group.block) (with_block (NodeBgp []) group.block) group.parts
+      (elements-placed 1 (computed.with_block scope (empty_group 1) group.block) (with_block (NodeBgp []) group.block) group.elements
       (block-placed 1 (empty_group 1) (NodeBgp []) group.block (empty-placed 1))).is
 
 -- the front and the back of numbered triple patterns
@@ -96,23 +96,23 @@ pattern_of-numbered scope group = AreNumbered-range 1 (triple_patterns (pattern_
 
 module _ (tokens : List Labelled) (scope : Scope) (agrees : Agrees tokens scope) where
   -- where the nodes have places, the pattern that is computed is theirs
-  patterns-are : (n : ℕ) (ts : List NodeTriple) → TriplesPlaces tokens scope agrees ts → OneByOne (IsTripleOf (scope_with tokens scope)) ts (patterns_from scope n ts)
+  patterns-are : (n : ℕ) (ts : List NodeTriple) → TriplesPlaces tokens scope agrees ts → OneByOne (IsTripleOf (context_with tokens scope)) ts (patterns_from scope n ts)
   patterns-are n [] all = tt
   patterns-are n (t ∷ ts) (first, others) = (record { subject = first.subject; predicate = first.verb; object = first.object }, patterns-are (n + 1) ts others)
 
-  placed-is : (n : ℕ) (pattern : NodePattern) → PatternPlaces tokens scope agrees pattern → IsPatternOf (scope_with tokens scope) pattern (placed scope n pattern)
+  placed-is : (n : ℕ) (pattern : NodePattern) → PatternPlaces tokens scope agrees pattern → IsPatternOf (context_with tokens scope) pattern (placed scope n pattern)
   placed-is n (NodeBgp ts) all = patterns-are n ts all
   placed-is n (NodeJoin left right) (first, second) = (placed-is n left first, placed-is (n + triples left) right second)
   placed-is n (NodeLeftJoin left right) (first, second) = (placed-is n left first, placed-is (n + triples left) right second)
 
-  pub pattern_of-is : (group : Group) → PatternPlaces tokens scope agrees (translated group) → IsPatternOf (scope_with tokens scope) (translated group) (pattern_of scope group)
-  pattern_of-is group all = subst (IsPatternOf (scope_with tokens scope) (translated group)) (sym (group-placed scope group)) (placed-is 1 (translated group) all)
+  pub pattern_of-is : (group : Group) → PatternPlaces tokens scope agrees (translated group) → IsPatternOf (context_with tokens scope) (translated group) (pattern_of scope group)
+  pattern_of-is group all = subst (IsPatternOf (context_with tokens scope) (translated group)) (sym (group-placed scope group)) (placed-is 1 (translated group) all)
 
   -- and a pattern that is theirs, and numbered, is the one that is computed
   abbrev triple_at : Place → Place → Place → ℕ → TriplePat
   triple_at subject predicate object number = record { subject = subject; predicate = predicate; object = object; number = number }
 
-  triple-is : (n : ℕ) (t : NodeTriple) (p : TriplePat) → IsTripleOf (scope_with tokens scope) t p → p.number ≡ n →
+  triple-is : (n : ℕ) (t : NodeTriple) (p : TriplePat) → IsTripleOf (context_with tokens scope) t p → p.number ≡ n →
       p ≡ triple_at (place_of scope t.subject) (place_of scope t.verb) (place_of scope t.object) n
   triple-is n t p is e =
       ap (λ x. triple_at x p.predicate p.object p.number) (place-is tokens scope agrees t.subject p.subject is.subject)
@@ -120,20 +120,20 @@ module _ (tokens : List Labelled) (scope : Scope) (agrees : Agrees tokens scope)
       ∙ ap (λ x. triple_at (place_of scope t.subject) (place_of scope t.verb) x p.number) (place-is tokens scope agrees t.object p.object is.object)
       ∙ ap (triple_at (place_of scope t.subject) (place_of scope t.verb) (place_of scope t.object)) e
 
-  triples-are : (n : ℕ) (ts : List NodeTriple) (ps : List TriplePat) → OneByOne (IsTripleOf (scope_with tokens scope)) ts ps → AreNumbered n ps → ps ≡ patterns_from scope n ts
+  triples-are : (n : ℕ) (ts : List NodeTriple) (ps : List TriplePat) → OneByOne (IsTripleOf (context_with tokens scope)) ts ps → AreNumbered n ps → ps ≡ patterns_from scope n ts
   triples-are n [] [] each numbers = refl
   triples-are n [] (p ∷ ps) each numbers = absurd each
   triples-are n (t ∷ ts) [] each numbers = absurd each
   triples-are n (t ∷ ts) (p ∷ ps) (first, others) (here, rest) =
       ap (λ x. x ∷ ps) (triple-is n t p first here) ∙ ap (λ xs. triple_at (place_of scope t.subject) (place_of scope t.verb) (place_of scope t.object) n ∷ xs) (triples-are (n + 1) ts ps others rest)
 
-  one-length : (ts : List NodeTriple) (ps : List TriplePat) → OneByOne (IsTripleOf (scope_with tokens scope)) ts ps → length ps ≡ length ts
+  one-length : (ts : List NodeTriple) (ps : List TriplePat) → OneByOne (IsTripleOf (context_with tokens scope)) ts ps → length ps ≡ length ts
   one-length [] [] each = refl
   one-length [] (p ∷ ps) each = absurd each
   one-length (t ∷ ts) [] each = absurd each
   one-length (t ∷ ts) (p ∷ ps) (first, others) = let e = one-length ts ps others in omega arith
 
-  same-length : (pattern : NodePattern) (a : Algebra) → IsPatternOf (scope_with tokens scope) pattern a → length (triple_patterns a) ≡ triples pattern
+  same-length : (pattern : NodePattern) (a : Algebra) → IsPatternOf (context_with tokens scope) pattern a → length (triple_patterns a) ≡ triples pattern
   same-length (NodeBgp ts) (Bgp ps) each = one-length ts ps each
   same-length (NodeJoin left right) (Join l r) (first, second) =
       let a = same-length left l first in
@@ -152,11 +152,11 @@ module _ (tokens : List Labelled) (scope : Scope) (agrees : Agrees tokens scope)
   same-length (NodeLeftJoin left right) (Bgp ps) is = absurd is
   same-length (NodeLeftJoin left right) (Join l r) is = absurd is
 
-  right-numbered : (n : ℕ) (left : NodePattern) (l r : Algebra) → IsPatternOf (scope_with tokens scope) left l → AreNumbered n (triple_patterns l ++ triple_patterns r) → AreNumbered (n + triples left) (triple_patterns r)
+  right-numbered : (n : ℕ) (left : NodePattern) (l r : Algebra) → IsPatternOf (context_with tokens scope) left l → AreNumbered n (triple_patterns l ++ triple_patterns r) → AreNumbered (n + triples left) (triple_patterns r)
   right-numbered n left l r is numbers =
       subst (λ (m : ℕ). AreNumbered (n + m) (triple_patterns r)) (same-length left l is) (numbered-back n (triple_patterns l) (triple_patterns r) numbers)
 
-  is-placed : (n : ℕ) (pattern : NodePattern) (a : Algebra) → IsPatternOf (scope_with tokens scope) pattern a → AreNumbered n (triple_patterns a) → a ≡ placed scope n pattern
+  is-placed : (n : ℕ) (pattern : NodePattern) (a : Algebra) → IsPatternOf (context_with tokens scope) pattern a → AreNumbered n (triple_patterns a) → a ≡ placed scope n pattern
   is-placed n (NodeBgp ts) (Bgp ps) each numbers = ap Bgp (triples-are n ts ps each numbers)
   is-placed n (NodeJoin left right) (Join l r) (first, second) numbers =
       ap (λ x. Join x r) (is-placed n left l first (numbered-front n (triple_patterns l) (triple_patterns r) numbers))
@@ -171,5 +171,5 @@ module _ (tokens : List Labelled) (scope : Scope) (agrees : Agrees tokens scope)
   is-placed n (NodeLeftJoin left right) (Bgp ps) is numbers = absurd is
   is-placed n (NodeLeftJoin left right) (Join l r) is numbers = absurd is
 
-  pub is-pattern_of : (group : Group) (a : Algebra) → IsPatternOf (scope_with tokens scope) (translated group) a → IsNumbered a → a ≡ pattern_of scope group
+  pub is-pattern_of : (group : Group) (a : Algebra) → IsPatternOf (context_with tokens scope) (translated group) a → IsNumbered a → a ≡ pattern_of scope group
   is-pattern_of group a is numbered = is-placed 1 (translated group) a is (range-numbered 1 (triple_patterns a) numbered) ∙ sym (group-placed scope group)

@@ -6,7 +6,7 @@ use Rattle.query_grammar.specs.Tree.{Node, Columns, AllColumns, Variables, Synta
 use Rattle.query_grammar.specs.Grammar.{IsQuery, SpellsQuery}
 use Rattle.alg_model.specs.Pattern.{Algebra, Bgp}
 use Rattle.query_values.specs.reading.Values.{name_of}
-use Rattle.sparql_parse.specs.computed.Meaning.{Scope, number_of, with_number, empty_group, with_block, with_parts, pattern_of, columns_of}
+use Rattle.sparql_parse.specs.computed.Meaning.{Scope, number_of, with_number, empty_group, with_block, with_elements, pattern_of, columns_of}
 use Rattle.sparql_parse.specs.computed.Building.{State, Head, Body, IsBuilt, built, start, with_object, columns_after, next_settled, no_columns}
 use Rattle.sparql_parse.proofs.Counting.{with_object-next}
 use Rattle.sparql_parse.proofs.Runs.{after_columns, after_variables, after_distinct, query-does}
@@ -79,7 +79,7 @@ spelled-built scope tree labelled spelled =
     }
 
 spelled-next : (scope : Scope) (tree : Syntax) (labelled : List Labelled) → SpellsQuery tree labelled [] →
-    next_settled (built scope start labelled) ≡ (with_parts scope (with_block scope (empty_group 1) tree.group.block) tree.group.parts).next
+    next_settled (built scope start labelled) ≡ (with_elements scope (with_block scope (empty_group 1) tree.group.block) tree.group.elements).next
 spelled-next scope tree labelled spelled =
     let ends = query-does scope tree labelled [] start spelled in
     let d = after_distinct tree.distinct start in
@@ -93,9 +93,9 @@ spelled-next scope tree labelled spelled =
     ∙ ap (λ (x : State). x.body.next) ends.settled_is
     ∙ next
 
--- the number of the next triple pattern behind a query
+-- the number of the next triple pattern after a query
 pub query-next : (scope : Scope) (tree : Syntax) (labelled : List Labelled) → IsQuery tree labelled →
-    next_settled (built scope start labelled) ≡ (with_parts scope (with_block scope (empty_group 1) tree.group.block) tree.group.parts).next
+    next_settled (built scope start labelled) ≡ (with_elements scope (with_block scope (empty_group 1) tree.group.block) tree.group.elements).next
 query-next scope tree labelled is = spelled-next scope tree labelled is.spelled
 
 pub query-built : (scope : Scope) (tree : Syntax) (labelled : List Labelled) → IsQuery tree labelled → IsBuilt scope tree (built scope start labelled)

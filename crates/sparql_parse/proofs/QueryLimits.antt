@@ -37,25 +37,25 @@ names_after-some : (names : List (List ℕ)) (terminal : Terminal) (token : Lexe
 names_after-some names terminal token e =
     subst (λ (t : Terminal). 0 < length (names_after names t token)) (sym e) (with_name-some names (name_of token))
 
-abbrev behind : List (List ℕ) → Labelled → List (List ℕ)
-behind names l = names_after names (terminal_of l.token) l.token
+abbrev after : List (List ℕ) → Labelled → List (List ℕ)
+after names l = names_after names (terminal_of l.token) l.token
 
-fold-grows : (names : List (List ℕ)) (ls : List Labelled) → length names ≤ length (fold behind names ls)
+fold-grows : (names : List (List ℕ)) (ls : List Labelled) → length names ≤ length (fold after names ls)
 fold-grows names [] = omega arith
 fold-grows names (l ∷ ls) =
     let here = names_after-grows names (terminal_of l.token) l.token in
-    let rest = fold-grows (behind names l) ls in
+    let rest = fold-grows (after names l) ls in
     omega arith
 
-fold-fine : (n : ℕ) (names : List (List ℕ)) (ls : List Labelled) → length (fold behind names ls) ≤ n → AreFine n ls
+fold-fine : (n : ℕ) (names : List (List ℕ)) (ls : List Labelled) → length (fold after names ls) ≤ n → AreFine n ls
 fold-fine n names [] within = tt
 fold-fine n names (l ∷ ls) within =
-    let grows = fold-grows (behind names l) ls in
-    (λ e. let some = names_after-some names (terminal_of l.token) l.token e in omega arith, fold-fine n (behind names l) ls within)
+    let grows = fold-grows (after names l) ls in
+    (λ e. let some = names_after-some names (terminal_of l.token) l.token e in omega arith, fold-fine n (after names l) ls within)
 
 pub names-fine : (ls : List Labelled) → AreFine (length (names_of ls)) ls
 unfolding names_of
-names-fine ls = fold-fine (length (fold behind [] ls)) [] ls (omega arith)
+names-fine ls = fold-fine (length (fold after [] ls)) [] ls (omega arith)
 
 pub pattern-limits : (scope : Scope) (tree : Syntax) (labelled : List Labelled) → IsQuery tree labelled → AreFine (length scope.names) labelled →
     count_of is_object labelled ≤ 256 → count_of is_optional labelled ≤ 63 → PatternKeepsLimits (length scope.names) (pattern_of scope tree.group)

@@ -8,14 +8,14 @@ use Rattle.query_grammar.specs.declared.syntax.Role.{Role}
 use Rattle.query_grammar.specs.declared.syntax.Role.TheVariants as roles
 use Rattle.query_grammar.specs.Terminals.{terminal_of}
 use Rattle.query_grammar.specs.Roles.{Labelled, with_role}
-use Rattle.query_grammar.specs.Tree.{Node, VariableNode, IriNode, StringNode, TaggedNode, TypedNode, NumberNode, BooleanNode, TypeNode, Property, Same, Parts, NoParts, OptionalPart, NestedPart, Group, Declaration, Columns, AllColumns, Variables, Syntax}
-use Rattle.query_grammar.specs.Grammar.{Spelling, ◌▸◌, Nothing, Never, Maybe, Many, none, more, Token, SomeToken, Keyword, IsIri, IsNode, IsVerb, AreMoreObjects, AreObjects, IsProperty, AreMoreProperties, AreProperties, IsSame, AreMoreSames, IsBlock, InBraces, AreParts, IsGroup, AreMoreVariables, AreColumns, IsDistinct, IsPrologue, SpellsQuery}
+use Rattle.query_grammar.specs.Tree.{Node, VariableNode, IriNode, StringNode, TaggedNode, TypedNode, NumberNode, BooleanNode, TypeNode, Property, Same, ElementKind, Elements, EndOfGroup, Element, OptionalGroup, NestedGroup, Group, Declaration, Columns, AllColumns, Variables, Syntax}
+use Rattle.query_grammar.specs.Grammar.{Spelling, ◌▸◌, Nothing, Never, Maybe, Many, none, more, Token, SomeToken, Keyword, IsIri, IsNode, IsVerb, AreMoreObjects, AreObjects, IsProperty, AreMoreProperties, AreProperties, IsSame, AreMoreSames, IsBlock, InBraces, AreElements, IsGroup, AreMoreVariables, AreColumns, IsDistinct, IsPrologue, SpellsQuery}
 use Rattle.query_values.specs.reading.Values.{name_of}
 use Rattle.sparql_parse.specs.computed.Meaning.{Scope, number_of}
 use Rattle.sparql_parse.specs.Translation.{NodeTriple, triples_of_property, triples_of_same, triples_of_block}
 use Rattle.sparql_parse.specs.OneByOne.{OneByOne}
 use Rattle.sparql_parse.specs.Names.{HasNumber}
-use Rattle.sparql_parse.specs.Translation.{NodePattern, NodeBgp, NodeJoin, NodeLeftJoin, with_block, with_parts, translated}
+use Rattle.sparql_parse.specs.Translation.{NodePattern, NodeBgp, NodeJoin, NodeLeftJoin, with_block, with_element, with_elements, translated}
 use Rattle.sparql_parse.proofs.NodeLaws.{Agrees, IsGood, HasPlace, number-of, variable-place, iri-place, string-place, tagged-place, typed-place, number-place, boolean-place, type-place}
 
 abbrev pub AreGood : Scope → List Labelled → Type 0
@@ -149,8 +149,8 @@ module _ (tokens : List Labelled) (scope : Scope) (agrees : Agrees tokens scope)
   g-more_properties : (properties : List Property) → Gives (AreMoreProperties properties) (PropertiesPlaces properties)
   g-more_properties [] = g-map (λ many. tt) (g-many terminals.Semicolon)
   g-more_properties (property ∷ properties) =
-      g-map (λ (one, (many, (first, others))). (first, others))
-      (g-then (g-some terminals.Semicolon roles.Keyword) (g-then (g-many terminals.Semicolon) (g-then (g-property property) (g-more_properties properties))))
+      g-map (λ (semicolons, (first, others)). (first, others))
+      (g-then (g-then (g-some terminals.Semicolon roles.Keyword) (g-many terminals.Semicolon)) (g-then (g-property property) (g-more_properties properties)))
 
   g-properties : (properties : List Property) → Gives (AreProperties properties) (PropertiesPlaces properties)
   g-properties [] = g-never
@@ -178,25 +178,24 @@ module _ (tokens : List Labelled) (scope : Scope) (agrees : Agrees tokens scope)
   g-braces : {A : Spelling} {X : Type 0} → Gives A X → Gives (InBraces A) X
   g-braces gives = g-map (λ (first, (x, last)). x) (g-then (g-some terminals.Open roles.Open) (g-then gives (g-some terminals.Close roles.Close)))
 
-  abbrev PartsPlaces : Parts → Type 0
-  PartsPlaces NoParts = Unit {0}
-  PartsPlaces (OptionalPart block parts next rest) = (BlockPlaces block × PartsPlaces parts) × (BlockPlaces next × PartsPlaces rest)
-  PartsPlaces (NestedPart block parts next rest) = (BlockPlaces block × PartsPlaces parts) × (BlockPlaces next × PartsPlaces rest)
+  abbrev ElementsPlaces : Elements → Type 0
+  ElementsPlaces EndOfGroup = Unit {0}
+  ElementsPlaces (Element kind block elements next rest) = (BlockPlaces block × ElementsPlaces elements) × (BlockPlaces next × ElementsPlaces rest)
 
-  g-parts : (parts : Parts) → Gives (AreParts parts) (PartsPlaces parts)
-  g-parts NoParts = g-nothing tt
-  g-parts (OptionalPart block parts next rest) =
+  g-elements : (elements : Elements) → Gives (AreElements elements) (ElementsPlaces elements)
+  g-elements EndOfGroup = g-nothing tt
+  g-elements (Element OptionalGroup block elements next rest) =
       g-map (λ (word, (inside, (stop, others))). (inside, others))
-      (g-then (g-some terminals.OptionalWord roles.Optional) (g-then (g-braces (g-then (g-block block) (g-parts parts))) (g-then (g-maybe (g-some terminals.Stop roles.Keyword)) (g-then (g-block next) (g-parts rest)))))
-  g-parts (NestedPart block parts next rest) =
+      (g-then (g-some terminals.OptionalWord roles.Optional) (g-then (g-braces (g-then (g-block block) (g-elements elements))) (g-then (g-maybe (g-some terminals.Stop roles.Keyword)) (g-then (g-block next) (g-elements rest)))))
+  g-elements (Element NestedGroup block elements next rest) =
       g-map (λ (inside, (stop, others)). (inside, others))
-      (g-then (g-braces (g-then (g-block block) (g-parts parts))) (g-then (g-maybe (g-some terminals.Stop roles.Keyword)) (g-then (g-block next) (g-parts rest))))
+      (g-then (g-braces (g-then (g-block block) (g-elements elements))) (g-then (g-maybe (g-some terminals.Stop roles.Keyword)) (g-then (g-block next) (g-elements rest))))
 
   abbrev GroupPlaces : Group → Type 0
-  GroupPlaces group = BlockPlaces group.block × PartsPlaces group.parts
+  GroupPlaces group = BlockPlaces group.block × ElementsPlaces group.elements
 
   g-group : (group : Group) → Gives (IsGroup group) (GroupPlaces group)
-  g-group group = g-braces (g-then (g-block group.block) (g-parts group.parts))
+  g-group group = g-braces (g-then (g-block group.block) (g-elements group.elements))
 
   -- the columns
   abbrev Numbered : List Lexeme → Type 0
@@ -271,19 +270,20 @@ module _ (tokens : List Labelled) (scope : Scope) (agrees : Agrees tokens scope)
   with_block-places pattern [] p all = p
   with_block-places pattern (same ∷ block) p all = (p, block-triples (same ∷ block) all)
 
-  with_parts-places : (pattern : NodePattern) (parts : Parts) → PatternPlaces pattern → PartsPlaces parts → PatternPlaces (with_parts pattern parts)
-  with_parts-places pattern NoParts p all = p
-  with_parts-places pattern (OptionalPart block parts next rest) p ((first, deep), (behind, others)) =
-      let inner = with_parts-places (with_block (NodeBgp []) block) parts (with_block-places (NodeBgp []) block tt first) deep in
-      let both = NodeLeftJoin pattern (with_parts (with_block (NodeBgp []) block) parts) in
-      with_parts-places (with_block both next) rest (with_block-places both next (p, inner) behind) others
-  with_parts-places pattern (NestedPart block parts next rest) p ((first, deep), (behind, others)) =
-      let inner = with_parts-places (with_block (NodeBgp []) block) parts (with_block-places (NodeBgp []) block tt first) deep in
-      let both = NodeJoin pattern (with_parts (with_block (NodeBgp []) block) parts) in
-      with_parts-places (with_block both next) rest (with_block-places both next (p, inner) behind) others
+  with_element-places : (kind : ElementKind) (pattern inner : NodePattern) → PatternPlaces pattern → PatternPlaces inner → PatternPlaces (with_element kind pattern inner)
+  with_element-places OptionalGroup pattern inner p q = (p, q)
+  with_element-places NestedGroup pattern inner p q = (p, q)
+
+  with_elements-places : (pattern : NodePattern) (elements : Elements) → PatternPlaces pattern → ElementsPlaces elements → PatternPlaces (with_elements pattern elements)
+  with_elements-places pattern EndOfGroup p all = p
+  with_elements-places pattern (Element kind block elements next rest) p ((first, deep), (after, others)) =
+      let inner = with_elements (with_block (NodeBgp []) block) elements in
+      let inside = with_elements-places (with_block (NodeBgp []) block) elements (with_block-places (NodeBgp []) block tt first) deep in
+      let both = with_element kind pattern inner in
+      with_elements-places (with_block both next) rest (with_block-places both next (with_element-places kind pattern inner p inside) after) others
 
   -- a query whose tokens are good: its columns have numbers, and the nodes of its group have places
   pub query-places : (tree : Syntax) (labelled : List Labelled) → SpellsQuery tree labelled [] → AreGood scope labelled → ColumnNumbers tree.columns × PatternPlaces (translated tree.group)
   query-places tree labelled spelled good =
       let ((columns, group), rest) = (g-query tree).give labelled [] spelled good in
-      (columns, with_parts-places (with_block (NodeBgp []) tree.group.block) tree.group.parts (with_block-places (NodeBgp []) tree.group.block tt group.0) group.1)
+      (columns, with_elements-places (with_block (NodeBgp []) tree.group.block) tree.group.elements (with_block-places (NodeBgp []) tree.group.block tt group.0) group.1)

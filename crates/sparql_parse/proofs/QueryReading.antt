@@ -13,7 +13,7 @@ use Rattle.query_grammar.specs.declared.expect.State.{State}
 use Rattle.query_grammar.specs.Roles.{Labelled}
 use Rattle.query_grammar.specs.Tree.{Syntax}
 use Rattle.query_grammar.specs.Grammar.{IsQuery}
-use Rattle.query_grammar.specs.Expecting.{Reading}
+use Rattle.query_grammar.specs.Expecting.{Progress}
 use Rattle.query_grammar.proofs.GrammarLaws.{IsReadToEnd-query}
 use Rattle.alg_model.specs.declared.var.Var.{Var}
 use Rattle.alg_model.specs.Pattern.{Algebra, algebra_of}
@@ -24,7 +24,7 @@ use Rattle.sparql_parse.specs.declared.fault.QueryFault.{QueryFault}
 use Rattle.sparql_parse.specs.declared.fault.QueryFault.TheVariants as faults
 use Rattle.query_values.specs.reading.Values.{IsSpelled}
 use Rattle.sparql_parse.specs.computed.Names.{names_of}
-use Rattle.sparql_parse.specs.computed.Naming.{Kept}
+use Rattle.sparql_parse.specs.computed.Symbols.{Symbols}
 use Rattle.sparql_parse.specs.held.Scopes.{scope_in}
 use Rattle.sparql_parse.specs.computed.Meaning.{columns_of}
 use Rattle.sparql_parse.specs.computed.Building.{IsBuilt, built, columns_after}
@@ -92,27 +92,27 @@ translated-query ls tree t query is =
     meant-query ls tree (query_with (names_of ls) (algebra_of t.pattern) t.columns t.distinct) query
     (record { names = refl; pattern = is.pattern; columns = is.columns; distinct = is.distinct })
 
-pub kept-query : (ls : List Labelled) (state : State) (k : Kept) (t : Translation) → IsKeptOf ls state k → state.expect ≡ expects.End →
+pub kept-query : (ls : List Labelled) (state : State) (k : Symbols) (t : Translation) → IsKeptOf ls state k → state.expect ≡ expects.End →
     ((tree : Syntax) → IsQuery tree ls → IsTranslation (scope_in k) tree t) →
     query_with k.names (algebra_of t.pattern) t.columns t.distinct ≡ query_of ls
 kept-query ls state k t kept at_end translated =
     let (tree, query) = IsReadToEnd-query ls (record { state = state; run = kept.run; at_end = at_end }) in
-    let is : IsTranslation (scope_of ls) tree t = subst (λ (x : Kept). IsTranslation (scope_in x) tree t) kept.same (translated tree query) in
-    ap (λ (x : Kept). query_with x.names (algebra_of t.pattern) t.columns t.distinct) kept.same ∙ translated-query ls tree t query is
+    let is : IsTranslation (scope_of ls) tree t = subst (λ (x : Symbols). IsTranslation (scope_in x) tree t) kept.same (translated tree query) in
+    ap (λ (x : Symbols). query_with x.names (algebra_of t.pattern) t.columns t.distinct) kept.same ∙ translated-query ls tree t query is
 
 -- the end of the tokens
 not_end : (e : Expect) → e ≢ expects.End → is_end e ≡ false
 not_end expects.End other = absurd (other refl)
 not_end _ other = refl
 
-pub ends : (size : ℕ) (r : Reading) → r.state.expect ≡ expects.End → query_at_end size r ≡ Ok (query_of r.labelled)
+pub ends : (size : ℕ) (r : Progress) → r.state.expect ≡ expects.End → query_at_end size r ≡ Ok (query_of r.labelled)
 ends size r e = ap (λ x. if is_end x then Ok (query_of r.labelled) else Err (faults.Syntax size)) e
 
-pub goes_on : (size : ℕ) (r : Reading) → r.state.expect ≢ expects.End → query_at_end size r ≡ Err (faults.Syntax size)
+pub goes_on : (size : ℕ) (r : Progress) → r.state.expect ≢ expects.End → query_at_end size r ≡ Err (faults.Syntax size)
 goes_on size r other = ap (λ b. if b then Ok (query_of r.labelled) else Err (faults.Syntax size)) (not_end r.state.expect other)
 
 -- what is read of a text, by its tokens
-pub text-read : (text : List ℕ) (tokens : List Lexeme) (read : Result Reading QueryFault) → AreTokens text tokens → read_on first tokens ≡ read →
+pub text-read : (text : List ℕ) (tokens : List Lexeme) (read : Result Progress QueryFault) → AreTokens text tokens → read_on first tokens ≡ read →
     text_reading text ≡ and_then (query_at_end (length text)) read
 unfolding text_reading
 text-read text tokens read are is = ap (λ ts. and_then (query_at_end (length text)) (read_on first ts)) (tokens_read-is text tokens are) ∙ ap (and_then (query_at_end (length text))) is

@@ -13,7 +13,7 @@ use Rattle.alg_model.specs.Query.{abstract_of}
 use Rattle.alg_model.specs.Limits.{KeepsLimits}
 use Rattle.query_values.specs.reading.Values.{IsSpelled}
 use Rattle.sparql_parse.specs.declared.build.Translation.{Translation}
-use Rattle.sparql_parse.specs.computed.Naming.{Kept}
+use Rattle.sparql_parse.specs.computed.Symbols.{Symbols}
 use Rattle.sparql_parse.specs.held.Scopes.{scope_in}
 use Rattle.sparql_parse.specs.computed.Meaning.{columns_of}
 use Rattle.sparql_parse.specs.held.Builds.{IsTranslation}
@@ -27,20 +27,20 @@ all-spelled : (ls : List Labelled) → All (λ l. IsSpelled l.token) ls → AreS
 all-spelled [] all = tt
 all-spelled (l ∷ ls) all = (all 0 l (omega arith), all-spelled ls (λ k d below. all (suc k) d (omega arith)))
 
-pub kept-limits : (ls : List Labelled) (state : State) (k : Kept) (t : Translation) (query : Query) → IsKeptOf ls state k → state.expect ≡ expects.End →
+pub kept-limits : (ls : List Labelled) (state : State) (k : Symbols) (t : Translation) (query : Query) → IsKeptOf ls state k → state.expect ≡ expects.End →
     ((tree : Syntax) → IsQuery tree ls → IsTranslation (scope_in k) tree t) →
     query.names ≡ k.names → query.pattern ≡ t.pattern → query.columns ≡ t.columns → query.distinct ≡ t.distinct → KeepsLimits query
 kept-limits ls state k t query kept at_end translated names pattern columns distinct =
     let (tree, is_query) = IsReadToEnd-query ls (record { state = state; run = kept.run; at_end = at_end }) in
-    let is : IsTranslation (scope_of ls) tree t = subst (λ (x : Kept). IsTranslation (scope_in x) tree t) kept.same (translated tree is_query) in
+    let is : IsTranslation (scope_of ls) tree t = subst (λ (x : Symbols). IsTranslation (scope_in x) tree t) kept.same (translated tree is_query) in
     let meant : IsMeantBy tree ls (abstract_of query) = record {
-      names = names ∙ ap (λ (x : Kept). x.names) kept.same;
+      names = names ∙ ap (λ (x : Symbols). x.names) kept.same;
       pattern = ap algebra_of pattern ∙ is.pattern;
       columns = ap (map (λ (column : Var). column.0)) columns ∙ is.columns ∙ ap (λ (p : Algebra). columns_of (scope_of ls) p tree.columns) (ap algebra_of (sym pattern));
       distinct = distinct ∙ is.distinct;
     } in
     keeps-limits tree ls query is_query meant
-    (subst (λ (x : Kept). length x.names ≤ 64) kept.same kept.within.names)
-    (subst (λ (x : Kept). x.tally.objects ≤ 256) kept.same kept.within.objects)
-    (subst (λ (x : Kept). x.tally.optionals ≤ 63) kept.same kept.within.optionals)
+    (subst (λ (x : Symbols). length x.names ≤ 64) kept.same kept.within.names)
+    (subst (λ (x : Symbols). x.tally.objects ≤ 256) kept.same kept.within.objects)
+    (subst (λ (x : Symbols). x.tally.optionals ≤ 63) kept.same kept.within.optionals)
     (all-spelled ls kept.spelled)

@@ -1,4 +1,4 @@
--- What is built behind the tokens of each symbol of the grammar, from any state: a function of the state, whose
+-- What is built after the tokens of each symbol of the grammar, from any state: a function of the state, whose
 -- last object is in its body.
 use Rattle.std.proofs.Common.{◌≡◌, Bool, true, false, List, [], ◌∷◌, Some, refl, ◌∙◌, ap, inl, inr}
 use Rattle.query_tokens.specs.Token.{Lexeme}
@@ -8,8 +8,8 @@ use Rattle.query_grammar.specs.declared.syntax.Role.{Role}
 use Rattle.query_grammar.specs.declared.syntax.Role.TheVariants as roles
 use Rattle.query_grammar.specs.Terminals.{terminal_of}
 use Rattle.query_grammar.specs.Roles.{Labelled, with_role}
-use Rattle.query_grammar.specs.Tree.{Node, VariableNode, IriNode, StringNode, TaggedNode, TypedNode, NumberNode, BooleanNode, TypeNode, Property, Same, Parts, NoParts, OptionalPart, NestedPart, Group, Declaration, Columns, AllColumns, Variables, Syntax}
-use Rattle.query_grammar.specs.Grammar.{Spelling, ◌▸◌, Nothing, Maybe, Many, none, more, Token, SomeToken, Keyword, IsIri, IsNode, IsVerb, AreMoreObjects, AreObjects, IsProperty, AreMoreProperties, AreProperties, IsSame, AreMoreSames, IsBlock, InBraces, AreParts, IsGroup, AreMoreVariables, AreColumns, IsDistinct, IsDeclaration, IsPrologue, SpellsQuery}
+use Rattle.query_grammar.specs.Tree.{Node, VariableNode, IriNode, StringNode, TaggedNode, TypedNode, NumberNode, BooleanNode, TypeNode, Property, Same, Elements, EndOfGroup, Element, OptionalGroup, NestedGroup, Group, Declaration, Columns, AllColumns, Variables, Syntax}
+use Rattle.query_grammar.specs.Grammar.{Spelling, ◌▸◌, Nothing, Maybe, Many, none, more, Token, SomeToken, Keyword, IsIri, IsNode, IsVerb, AreMoreObjects, AreObjects, IsProperty, Semicolons, AreMoreProperties, AreProperties, IsSame, AreMoreSames, IsBlock, InBraces, AreElements, IsGroup, AreMoreVariables, AreColumns, IsDistinct, IsDeclaration, IsPrologue, SpellsQuery}
 use Rattle.sparql_parse.specs.computed.Meaning.{Scope}
 use Rattle.sparql_parse.specs.computed.Building.{State, step, in_role, built, settled, opened, closed, with_triple, with_column}
 
@@ -81,7 +81,7 @@ iri-run scope s role token e from to a b c is =
       ]
     ]
 
--- behind a subject, a verb and an object
+-- after a subject, a verb and an object
 abbrev pub with_subject : Node → State → State
 with_subject node t = record t { subject = node }
 
@@ -99,11 +99,11 @@ subject-run scope s (StringNode token) from to is = token-run scope s terminals.
 subject-run scope s (TaggedNode token tag) from to (middle, one, two) =
     token-run scope s terminals.Quoted roles.Subject token from middle one
     ∙ token-run scope (with_subject (StringNode token) (settled scope s)) terminals.Tag roles.Tag tag middle to two
-subject-run scope s (TypedNode token iri) from to (middle, one, (behind, (carets, two), three)) =
+subject-run scope s (TypedNode token iri) from to (middle, one, (after, (carets, two), three)) =
     let e = with_subject (StringNode token) (settled scope s) in
     token-run scope s terminals.Quoted roles.Subject token from middle one
-    ∙ token-run scope e terminals.Carets roles.Keyword carets middle behind two
-    ∙ iri-run scope e roles.Datatype iri (with_subject (TypedNode token iri) (settled scope s)) behind to refl refl refl three
+    ∙ token-run scope e terminals.Carets roles.Keyword carets middle after two
+    ∙ iri-run scope e roles.Datatype iri (with_subject (TypedNode token iri) (settled scope s)) after to refl refl refl three
 subject-run scope s (NumberNode token) from to is = token-run scope s terminals.Number roles.Subject token from to is
 subject-run scope s (BooleanNode token) from to is = token-run scope s terminals.Boolean roles.Subject token from to is
 subject-run scope s (TypeNode token) from to is = absurd is
@@ -116,11 +116,11 @@ object-run scope s (StringNode token) from to is = token-run scope s terminals.Q
 object-run scope s (TaggedNode token tag) from to (middle, one, two) =
     token-run scope s terminals.Quoted roles.Object token from middle one
     ∙ token-run scope (pending (StringNode token) (settled scope s)) terminals.Tag roles.Tag tag middle to two
-object-run scope s (TypedNode token iri) from to (middle, one, (behind, (carets, two), three)) =
+object-run scope s (TypedNode token iri) from to (middle, one, (after, (carets, two), three)) =
     let e = pending (StringNode token) (settled scope s) in
     token-run scope s terminals.Quoted roles.Object token from middle one
-    ∙ token-run scope e terminals.Carets roles.Keyword carets middle behind two
-    ∙ iri-run scope e roles.Datatype iri (pending (TypedNode token iri) (settled scope s)) behind to refl refl refl three
+    ∙ token-run scope e terminals.Carets roles.Keyword carets middle after two
+    ∙ iri-run scope e roles.Datatype iri (pending (TypedNode token iri) (settled scope s)) after to refl refl refl three
 object-run scope s (NumberNode token) from to is = token-run scope s terminals.Number roles.Object token from to is
 object-run scope s (BooleanNode token) from to is = token-run scope s terminals.Boolean roles.Object token from to is
 object-run scope s (TypeNode token) from to is = absurd is
@@ -184,8 +184,8 @@ more_properties-does : (scope : Scope) (properties : List Property) → Does sco
 more_properties-does scope [] = many-does scope terminals.Semicolon
 more_properties-does scope (property ∷ properties) =
     let last = then scope (IsProperty property) (AreMoreProperties properties) (after_property scope property) (after_properties scope properties) (property-does scope property) (more_properties-does scope properties) in
-    let rest = then scope (Many (Keyword terminals.Semicolon)) (IsProperty property ▸ AreMoreProperties properties) same_state (after_properties scope (property ∷ properties)) (many-does scope terminals.Semicolon) last in
-    then scope (Keyword terminals.Semicolon) (Many (Keyword terminals.Semicolon) ▸ IsProperty property ▸ AreMoreProperties properties) same_state (after_properties scope (property ∷ properties)) (keyword-does scope terminals.Semicolon) rest
+    let signs = then scope (Keyword terminals.Semicolon) (Many (Keyword terminals.Semicolon)) same_state same_state (keyword-does scope terminals.Semicolon) (many-does scope terminals.Semicolon) in
+    then scope Semicolons (IsProperty property ▸ AreMoreProperties properties) same_state (after_properties scope (property ∷ properties)) signs last
 
 properties-does : (scope : Scope) (properties : List Property) → Does scope (AreProperties properties) (after_properties scope properties)
 properties-does scope [] from to s is = absurd is
@@ -214,12 +214,12 @@ after_open t = record t { body = opened t.optional t.body; optional = false }
 abbrev pub after_close : State → State
 after_close t = record t { body = closed t.body }
 
-abbrev pub after_parts : Scope → Parts → State → State
-after_parts scope NoParts t = t
-after_parts scope (OptionalPart block parts next rest) t =
-    after_parts scope rest (after_block scope next (after_close (after_parts scope parts (after_block scope block (after_open (after_optional t))))))
-after_parts scope (NestedPart block parts next rest) t =
-    after_parts scope rest (after_block scope next (after_close (after_parts scope parts (after_block scope block (after_open t)))))
+abbrev pub after_elements : Scope → Elements → State → State
+after_elements scope EndOfGroup t = t
+after_elements scope (Element OptionalGroup block elements next rest) t =
+    after_elements scope rest (after_block scope next (after_close (after_elements scope elements (after_block scope block (after_open (after_optional t))))))
+after_elements scope (Element NestedGroup block elements next rest) t =
+    after_elements scope rest (after_block scope next (after_close (after_elements scope elements (after_block scope block (after_open t)))))
 
 optional-does : (scope : Scope) → Does scope (SomeToken terminals.OptionalWord roles.Optional) after_optional
 optional-does scope from to s (token, is) = record { end = after_optional s; run = token-run scope s terminals.OptionalWord roles.Optional token from to is; settled_is = refl }
@@ -235,36 +235,36 @@ braces-do scope inside f does =
     let rest = then scope inside (SomeToken terminals.Close roles.Close) f after_close does (close-does scope) in
     then scope (SomeToken terminals.Open roles.Open) (inside ▸ SomeToken terminals.Close roles.Close) after_open (λ t. after_close (f t)) (open-does scope) rest
 
-abbrev pub after_inside : Scope → List Same → Parts → State → State
-after_inside scope block parts t = after_parts scope parts (after_block scope block t)
+abbrev pub after_inside : Scope → List Same → Elements → State → State
+after_inside scope block elements t = after_elements scope elements (after_block scope block t)
 
-inside-does : (scope : Scope) (block : List Same) (parts : Parts) → Does scope (AreParts parts) (after_parts scope parts) → Does scope (IsBlock block ▸ AreParts parts) (after_inside scope block parts)
-inside-does scope block parts does = then scope (IsBlock block) (AreParts parts) (after_block scope block) (after_parts scope parts) (block-does scope block) does
+inside-does : (scope : Scope) (block : List Same) (elements : Elements) → Does scope (AreElements elements) (after_elements scope elements) → Does scope (IsBlock block ▸ AreElements elements) (after_inside scope block elements)
+inside-does scope block elements does = then scope (IsBlock block) (AreElements elements) (after_block scope block) (after_elements scope elements) (block-does scope block) does
 
 -- an element's group, and what follows it
-element-does : (scope : Scope) (block : List Same) (parts : Parts) (next : List Same) (rest : Parts) →
-    Does scope (AreParts parts) (after_parts scope parts) → Does scope (AreParts rest) (after_parts scope rest) →
-    Does scope (InBraces (IsBlock block ▸ AreParts parts) ▸ Maybe (Keyword terminals.Stop) ▸ IsBlock next ▸ AreParts rest)
-    (λ t. after_parts scope rest (after_block scope next (after_close (after_inside scope block parts (after_open t)))))
-element-does scope block parts next rest inner outer =
-    let behind = then scope (Maybe (Keyword terminals.Stop)) (IsBlock next ▸ AreParts rest) same_state (after_inside scope next rest) (maybe-does scope terminals.Stop) (inside-does scope next rest outer) in
-    then scope (InBraces (IsBlock block ▸ AreParts parts)) (Maybe (Keyword terminals.Stop) ▸ IsBlock next ▸ AreParts rest)
-    (λ t. after_close (after_inside scope block parts (after_open t))) (after_inside scope next rest)
-    (braces-do scope (IsBlock block ▸ AreParts parts) (after_inside scope block parts) (inside-does scope block parts inner)) behind
+element-does : (scope : Scope) (block : List Same) (elements : Elements) (next : List Same) (rest : Elements) →
+    Does scope (AreElements elements) (after_elements scope elements) → Does scope (AreElements rest) (after_elements scope rest) →
+    Does scope (InBraces (IsBlock block ▸ AreElements elements) ▸ Maybe (Keyword terminals.Stop) ▸ IsBlock next ▸ AreElements rest)
+    (λ t. after_elements scope rest (after_block scope next (after_close (after_inside scope block elements (after_open t)))))
+element-does scope block elements next rest inner outer =
+    let after = then scope (Maybe (Keyword terminals.Stop)) (IsBlock next ▸ AreElements rest) same_state (after_inside scope next rest) (maybe-does scope terminals.Stop) (inside-does scope next rest outer) in
+    then scope (InBraces (IsBlock block ▸ AreElements elements)) (Maybe (Keyword terminals.Stop) ▸ IsBlock next ▸ AreElements rest)
+    (λ t. after_close (after_inside scope block elements (after_open t))) (after_inside scope next rest)
+    (braces-do scope (IsBlock block ▸ AreElements elements) (after_inside scope block elements) (inside-does scope block elements inner)) after
 
-pub parts-do : (scope : Scope) (parts : Parts) → Does scope (AreParts parts) (after_parts scope parts)
-parts-do scope NoParts = nothing-does scope
-parts-do scope (OptionalPart block parts next rest) =
-    let element = element-does scope block parts next rest (parts-do scope parts) (parts-do scope rest) in
-    then scope (SomeToken terminals.OptionalWord roles.Optional) (InBraces (IsBlock block ▸ AreParts parts) ▸ Maybe (Keyword terminals.Stop) ▸ IsBlock next ▸ AreParts rest)
-    after_optional (after_parts scope (NestedPart block parts next rest)) (optional-does scope) element
-parts-do scope (NestedPart block parts next rest) = element-does scope block parts next rest (parts-do scope parts) (parts-do scope rest)
+pub elements-do : (scope : Scope) (elements : Elements) → Does scope (AreElements elements) (after_elements scope elements)
+elements-do scope EndOfGroup = nothing-does scope
+elements-do scope (Element OptionalGroup block elements next rest) =
+    let element = element-does scope block elements next rest (elements-do scope elements) (elements-do scope rest) in
+    then scope (SomeToken terminals.OptionalWord roles.Optional) (InBraces (IsBlock block ▸ AreElements elements) ▸ Maybe (Keyword terminals.Stop) ▸ IsBlock next ▸ AreElements rest)
+    after_optional (after_elements scope (Element NestedGroup block elements next rest)) (optional-does scope) element
+elements-do scope (Element NestedGroup block elements next rest) = element-does scope block elements next rest (elements-do scope elements) (elements-do scope rest)
 
 abbrev pub after_group : Scope → Group → State → State
-after_group scope group t = after_close (after_inside scope group.block group.parts (after_open t))
+after_group scope group t = after_close (after_inside scope group.block group.elements (after_open t))
 
 pub group-does : (scope : Scope) (group : Group) → Does scope (IsGroup group) (after_group scope group)
-group-does scope group = braces-do scope (IsBlock group.block ▸ AreParts group.parts) (after_inside scope group.block group.parts) (inside-does scope group.block group.parts (parts-do scope group.parts))
+group-does scope group = braces-do scope (IsBlock group.block ▸ AreElements group.elements) (after_inside scope group.block group.elements) (inside-does scope group.block group.elements (elements-do scope group.elements))
 
 -- the SELECT clause
 abbrev pub after_column : Scope → Lexeme → State → State

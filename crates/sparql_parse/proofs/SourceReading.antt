@@ -16,12 +16,12 @@ use Rattle.sparql_parse.specs.computed.Reading.{is_nothing, token_before, tokens
 abbrev token_at : ℕ → List ℕ → Lexeme
 token_at at whole = token_before (at + length (encode_utf8_all (before whole (after_blanks whole)))) (after_blanks whole) (scan_or_bad (after_blanks whole))
 
-abbrev behind : List ℕ → List ℕ
-behind whole = (scan_or_bad (after_blanks whole)).1
+abbrev after : List ℕ → List ℕ
+after whole = (scan_or_bad (after_blanks whole)).1
 
 record Next (at : ℕ) (whole : List ℕ) : Type 0 where
-  next : IsNextToken at whole (token_at at whole) (behind whole)
-  shorter : length (behind whole) < length whole
+  next : IsNextToken at whole (token_at at whole) (after whole)
+  shorter : length (after whole) < length whole
 
 next_stands : (at : ℕ) (whole : List ℕ) → 0 < length (after_blanks whole) → Next at whole
 next_stands at whole long =
@@ -44,7 +44,7 @@ next_stands at whole long =
       shorter = omega (arith, ap length split, length-append front rest, ap length stands.split, length-append stands.text found.1, stands.some_text);
     }
 
-tokens_more : (n at : ℕ) (whole : List ℕ) → tokens_from (suc n) at whole ≡ (if is_nothing (after_blanks whole) then [] else token_at at whole ∷ tokens_from n ((token_at at whole).at + length (token_at at whole).text) (behind whole))
+tokens_more : (n at : ℕ) (whole : List ℕ) → tokens_from (suc n) at whole ≡ (if is_nothing (after_blanks whole) then [] else token_at at whole ∷ tokens_from n ((token_at at whole).at + length (token_at at whole).text) (after whole))
 unfolding tokens_from
 tokens_more n at whole = refl
 
@@ -67,12 +67,12 @@ pub tokens_from-are : (n at : ℕ) (whole : List ℕ) → length whole ≤ n →
 tokens_from-are zero at whole small = subst (AreTokensFrom at whole) (sym (tokens_none at whole)) (blank-all whole (short-blanks whole small))
 tokens_from-are (suc n) at whole small =
     subst (AreTokensFrom at whole) (sym (tokens_more n at whole))
-    (elim (after_blanks whole) as (λ r. after_blanks whole ≡ r → AreTokensFrom at whole (if is_nothing r then [] else token_at at whole ∷ tokens_from n ((token_at at whole).at + length (token_at at whole).text) (behind whole))) [
+    (elim (after_blanks whole) as (λ r. after_blanks whole ≡ r → AreTokensFrom at whole (if is_nothing r then [] else token_at at whole ∷ tokens_from n ((token_at at whole).at + length (token_at at whole).text) (after whole))) [
       | [] ↦ λ e. blank-all whole e
       | c ∷ cs ↦ λ e.
           let long : 0 < length (after_blanks whole) = omega (arith, ap length e) in
           let stands = next_stands at whole long in
-          (behind whole, stands.next, tokens_from-are n ((token_at at whole).at + length (token_at at whole).text) (behind whole) (omega (arith, stands.shorter)))
+          (after whole, stands.next, tokens_from-are n ((token_at at whole).at + length (token_at at whole).text) (after whole) (omega (arith, stands.shorter)))
     ] refl)
 
 -- the tokens of a source are those that are read

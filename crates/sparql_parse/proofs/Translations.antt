@@ -2,14 +2,14 @@
 use Rattle.std.proofs.Common.{◌≡◌, ℕ, ◌+◌, Bool, true, false, List, [], ◌∷◌, ◌++◌, map, length, refl, sym, ◌∙◌, ap, subst, append_assoc, append-nil, arith}
 use Rattle.std.specs.List.{flat_map}
 use Rattle.query_grammar.specs.Roles.{Labelled}
-use Rattle.query_grammar.specs.Tree.{Node, Property, Same, Parts, NoParts, OptionalPart, NestedPart, Group}
-use Rattle.query_grammar.specs.Grammar.{AreObjects, AreProperties, IsSame, IsBlock, AreParts, IsGroup}
+use Rattle.query_grammar.specs.Tree.{Node, Property, Same, Elements, EndOfGroup, Element, OptionalGroup, NestedGroup, Group}
+use Rattle.query_grammar.specs.Grammar.{AreObjects, AreProperties, IsSame, IsBlock, AreElements, IsGroup}
 use Rattle.alg_model.specs.declared.pattern.TriplePat.{TriplePat}
 use Rattle.alg_model.specs.Pattern.{Algebra, Bgp, Join, LeftJoin}
-use Rattle.sparql_parse.specs.computed.Meaning.{Scope, Translated, patterns_from, empty_group, with_block, with_parts, pattern_of}
+use Rattle.sparql_parse.specs.computed.Meaning.{Scope, Translated, patterns_from, empty_group, with_block, with_elements, pattern_of}
 use Rattle.sparql_parse.specs.Translation.{NodeTriple, triples_of_property, triples_of_same, triples_of_block}
 use Rattle.sparql_parse.specs.computed.Building.{State, Head, Body, OpenGroup, new_group, joined_block, pattern_so_far, combined, with_pattern, pattern_at, with_triple}
-use Rattle.sparql_parse.proofs.Runs.{after_object, after_objects, after_property, after_properties, after_same, after_block, after_optional, after_open, after_close, after_inside, after_parts, after_group}
+use Rattle.sparql_parse.proofs.Runs.{after_object, after_objects, after_property, after_properties, after_same, after_block, after_optional, after_open, after_close, after_inside, after_elements, after_group}
 
 -- triple patterns at the end of the innermost group's block
 abbrev pub with_triples : Scope → List NodeTriple → Body → Body
@@ -215,47 +215,46 @@ module _ (scope : Scope) (head : Head) (whole : Algebra) where
         no_block = refl;
       }
 
--- the blocks of parts have triples
-abbrev AreFull : Parts → Type 0
-AreFull NoParts = Unit {0}
-AreFull (OptionalPart block parts next rest) = IsFull block × AreFull parts × IsFull next × AreFull rest
-AreFull (NestedPart block parts next rest) = IsFull block × AreFull parts × IsFull next × AreFull rest
+-- the blocks of elements have triples
+abbrev AreFull : Elements → Type 0
+AreFull EndOfGroup = Unit {0}
+AreFull (Element kind block elements next rest) = IsFull block × AreFull elements × IsFull next × AreFull rest
 
-parts-full : (parts : Parts) (from to : List Labelled) → AreParts parts from to → AreFull parts
-parts-full NoParts from to is = tt
-parts-full (OptionalPart block parts next rest) from to (a, word, (b, (c, opens, (d, (e, inner, deep), closes)), (f, stop, (g, behind, last)))) =
-    (block-full block c e inner, parts-full parts e d deep, block-full next f g behind, parts-full rest g to last)
-parts-full (NestedPart block parts next rest) from to (b, (c, opens, (d, (e, inner, deep), closes)), (f, stop, (g, behind, last))) =
-    (block-full block c e inner, parts-full parts e d deep, block-full next f g behind, parts-full rest g to last)
+elements-full : (elements : Elements) (from to : List Labelled) → AreElements elements from to → AreFull elements
+elements-full EndOfGroup from to is = tt
+elements-full (Element OptionalGroup block elements next rest) from to (a, word, (b, (c, opens, (d, (e, inner, deep), closes)), (f, stop, (g, after, last)))) =
+    (block-full block c e inner, elements-full elements e d deep, block-full next f g after, elements-full rest g to last)
+elements-full (Element NestedGroup block elements next rest) from to (b, (c, opens, (d, (e, inner, deep), closes)), (f, stop, (g, after, last))) =
+    (block-full block c e inner, elements-full elements e d deep, block-full next f g after, elements-full rest g to last)
 
 module _ (scope : Scope) (head : Head) (whole : Algebra) where
-  parts-within : (parts : Parts) (t : State) (optional : Bool) (gs : List OpenGroup) (so_far : Translated) → AreFull parts → Within scope t head optional gs whole so_far →
-      Within scope (after_parts scope parts t) head optional gs whole (with_parts scope so_far parts)
-  parts-within NoParts t optional gs so_far full within = within
-  parts-within (OptionalPart block parts next rest) t optional gs so_far (block_full, parts_full, next_full, rest_full) within =
+  elements-within : (elements : Elements) (t : State) (optional : Bool) (gs : List OpenGroup) (so_far : Translated) → AreFull elements → Within scope t head optional gs whole so_far →
+      Within scope (after_elements scope elements t) head optional gs whole (with_elements scope so_far elements)
+  elements-within EndOfGroup t optional gs so_far full within = within
+  elements-within (Element OptionalGroup block elements next rest) t optional gs so_far (block_full, elements_full, next_full, rest_full) within =
       let g = within.group in
       let is = within.is in
       let fresh = open-fresh scope head whole (after_optional t) true (g ∷ gs) so_far.next is.head_is refl is.body_is in
       let first = block-within scope head whole (after_open (after_optional t)) true (g ∷ gs) (empty_group so_far.next) block fresh block_full in
-      let inner = with_parts scope (with_block scope (empty_group so_far.next) block) parts in
-      let deep = parts-within parts (after_block scope block (after_open (after_optional t))) true (g ∷ gs) (with_block scope (empty_group so_far.next) block) parts_full first in
-      let e = after_inside scope block parts (after_open (after_optional t)) in
+      let inner = with_elements scope (with_block scope (empty_group so_far.next) block) elements in
+      let deep = elements-within elements (after_block scope block (after_open (after_optional t))) true (g ∷ gs) (with_block scope (empty_group so_far.next) block) elements_full first in
+      let e = after_inside scope block elements (after_open (after_optional t)) in
       let closes = close-fresh scope head whole e optional true gs g so_far inner is.optional_is is.pattern_is deep in
-      let behind : Translated = record { pattern = LeftJoin so_far.pattern inner.pattern; next = inner.next } in
-      let last = block-within scope head whole (after_close e) optional gs behind next closes next_full in
-      parts-within rest (after_block scope next (after_close e)) optional gs (with_block scope behind next) rest_full last
-  parts-within (NestedPart block parts next rest) t optional gs so_far (block_full, parts_full, next_full, rest_full) within =
+      let after : Translated = record { pattern = LeftJoin so_far.pattern inner.pattern; next = inner.next } in
+      let last = block-within scope head whole (after_close e) optional gs after next closes next_full in
+      elements-within rest (after_block scope next (after_close e)) optional gs (with_block scope after next) rest_full last
+  elements-within (Element NestedGroup block elements next rest) t optional gs so_far (block_full, elements_full, next_full, rest_full) within =
       let g = within.group in
       let is = within.is in
       let fresh = open-fresh scope head whole t false (g ∷ gs) so_far.next is.head_is is.flag is.body_is in
       let first = block-within scope head whole (after_open t) false (g ∷ gs) (empty_group so_far.next) block fresh block_full in
-      let inner = with_parts scope (with_block scope (empty_group so_far.next) block) parts in
-      let deep = parts-within parts (after_block scope block (after_open t)) false (g ∷ gs) (with_block scope (empty_group so_far.next) block) parts_full first in
-      let e = after_inside scope block parts (after_open t) in
+      let inner = with_elements scope (with_block scope (empty_group so_far.next) block) elements in
+      let deep = elements-within elements (after_block scope block (after_open t)) false (g ∷ gs) (with_block scope (empty_group so_far.next) block) elements_full first in
+      let e = after_inside scope block elements (after_open t) in
       let closes = close-fresh scope head whole e optional false gs g so_far inner is.optional_is is.pattern_is deep in
-      let behind : Translated = record { pattern = Join so_far.pattern inner.pattern; next = inner.next } in
-      let last = block-within scope head whole (after_close e) optional gs behind next closes next_full in
-      parts-within rest (after_block scope next (after_close e)) optional gs (with_block scope behind next) rest_full last
+      let after : Translated = record { pattern = Join so_far.pattern inner.pattern; next = inner.next } in
+      let last = block-within scope head whole (after_close e) optional gs after next closes next_full in
+      elements-within rest (after_block scope next (after_close e)) optional gs (with_block scope after next) rest_full last
 
 -- the query's group, from where no group is open
 pub group-whole : (scope : Scope) (group : Group) (from to : List Labelled) (t : State) (whole : Algebra) → IsGroup group from to →
@@ -263,30 +262,30 @@ pub group-whole : (scope : Scope) (group : Group) (from to : List Labelled) (t :
 group-whole scope group from to t whole (a, opens, (b, (c, inner, deep), closes)) flag body_is =
     let fresh = open-fresh scope t.head whole t false [] 1 refl flag body_is in
     let first = block-within scope t.head whole (after_open t) false [] (empty_group 1) group.block fresh (block-full group.block a c inner) in
-    let last = parts-within scope t.head whole group.parts (after_block scope group.block (after_open t)) false [] (with_block scope (empty_group 1) group.block) (parts-full group.parts c b deep) first in
+    let last = elements-within scope t.head whole group.elements (after_block scope group.block (after_open t)) false [] (with_block scope (empty_group 1) group.block) (elements-full group.elements c b deep) first in
     ap (λ (b : Body). (Rattle.sparql_parse.specs.computed.Building.closed b).whole) last.is.body_is ∙ last.is.pattern_is
 
 -- a group leaves the SELECT clause as it is
-parts-head : (scope : Scope) (parts : Parts) (t : State) → (after_parts scope parts t).head ≡ t.head
-parts-head scope NoParts t = refl
-parts-head scope (OptionalPart block parts next rest) t =
+elements-head : (scope : Scope) (elements : Elements) (t : State) → (after_elements scope elements t).head ≡ t.head
+elements-head scope EndOfGroup t = refl
+elements-head scope (Element OptionalGroup block elements next rest) t =
     let e = after_block scope block (after_open (after_optional t)) in
-    let f = after_close (after_parts scope parts e) in
-    parts-head scope rest (after_block scope next f) ∙ (block-read scope next f).head ∙ parts-head scope parts e ∙ (block-read scope block (after_open (after_optional t))).head
-parts-head scope (NestedPart block parts next rest) t =
+    let f = after_close (after_elements scope elements e) in
+    elements-head scope rest (after_block scope next f) ∙ (block-read scope next f).head ∙ elements-head scope elements e ∙ (block-read scope block (after_open (after_optional t))).head
+elements-head scope (Element NestedGroup block elements next rest) t =
     let e = after_block scope block (after_open t) in
-    let f = after_close (after_parts scope parts e) in
-    parts-head scope rest (after_block scope next f) ∙ (block-read scope next f).head ∙ parts-head scope parts e ∙ (block-read scope block (after_open t)).head
+    let f = after_close (after_elements scope elements e) in
+    elements-head scope rest (after_block scope next f) ∙ (block-read scope next f).head ∙ elements-head scope elements e ∙ (block-read scope block (after_open t)).head
 
 pub group-head : (scope : Scope) (group : Group) (t : State) → (after_group scope group t).head ≡ t.head
-group-head scope group t = parts-head scope group.parts (after_block scope group.block (after_open t)) ∙ (block-read scope group.block (after_open t)).head
+group-head scope group t = elements-head scope group.elements (after_block scope group.block (after_open t)) ∙ (block-read scope group.block (after_open t)).head
 
--- and the number of the next triple pattern behind it
+-- and the number of the next triple pattern after it
 pub group-next : (scope : Scope) (group : Group) (from to : List Labelled) (t : State) (whole : Algebra) → IsGroup group from to →
     t.optional ≡ false → t.body ≡ record { groups = []; next = 1; whole = whole } →
-    (after_group scope group t).body.next ≡ (with_parts scope (with_block scope (empty_group 1) group.block) group.parts).next
+    (after_group scope group t).body.next ≡ (with_elements scope (with_block scope (empty_group 1) group.block) group.elements).next
 group-next scope group from to t whole (a, opens, (b, (c, inner, deep), closes)) flag body_is =
     let fresh = open-fresh scope t.head whole t false [] 1 refl flag body_is in
     let first = block-within scope t.head whole (after_open t) false [] (empty_group 1) group.block fresh (block-full group.block a c inner) in
-    let last = parts-within scope t.head whole group.parts (after_block scope group.block (after_open t)) false [] (with_block scope (empty_group 1) group.block) (parts-full group.parts c b deep) first in
+    let last = elements-within scope t.head whole group.elements (after_block scope group.block (after_open t)) false [] (with_block scope (empty_group 1) group.block) (elements-full group.elements c b deep) first in
     ap (λ (b : Body). (Rattle.sparql_parse.specs.computed.Building.closed b).next) last.is.body_is

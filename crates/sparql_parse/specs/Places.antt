@@ -32,15 +32,15 @@ IsTermOf tokens (BooleanNode token) term = SpellsBoolean token term
 IsTermOf tokens (TypeNode token) term = term ≡ iri rdf_type
 
 -- what a node is read in: the tokens of its query, and the names of the query's variables
-pub record Scope : Type 0 where
+pub record Context : Type 0 where
   pub tokens : List Labelled
   pub names : List (List ℕ)
 
 -- the place that is the canonical text of the term
-abbrev pub IsTermPlace : Scope → Node → Place → Type 0
-IsTermPlace scope node place = (term : RdfTerm) × IsTermOf scope.tokens node term × (place ≡ places.Term (canonical_text term))
+abbrev pub IsTermPlace : Context → Node → Place → Type 0
+IsTermPlace context node place = (term : RdfTerm) × IsTermOf context.tokens node term × (place ≡ places.Term (canonical_text term))
 
 -- the place of a node in a triple pattern: a variable by its number, or the canonical text of the node's term
-abbrev pub IsPlaceOf : Scope → Node → Place → Type 0
-IsPlaceOf scope (VariableNode token) place = (n : ℕ) × HasNumber scope.names token n × (place ≡ places.Var (record { 0 = n }))
-IsPlaceOf scope node place = IsTermPlace scope node place
+abbrev pub IsPlaceOf : Context → Node → Place → Type 0
+IsPlaceOf context (VariableNode token) place = (n : ℕ) × HasNumber context.names token n × (place ≡ places.Var (record { 0 = n }))
+IsPlaceOf context node place = IsTermPlace context node place

@@ -4,10 +4,10 @@ use Rattle.std.specs.Prelude.{◌≡◌, ℕ, ◌==◌, List, [], ◌∷◌, map
 use Rattle.std.specs.List.{flat_map, range_with_len}
 use Rattle.alg_model.specs.declared.pattern.TriplePat.{TriplePat}
 use Rattle.alg_model.specs.Pattern.{Algebra, Bgp, Join, LeftJoin, vars_of, triple_patterns}
-use Rattle.query_grammar.specs.Tree.{Node, Property, Same, Parts, NoParts, OptionalPart, NestedPart, Group, Columns, AllColumns, Variables}
+use Rattle.query_grammar.specs.Tree.{Node, Property, Same, ElementKind, Elements, EndOfGroup, Element, OptionalGroup, NestedGroup, Group, Columns, AllColumns, Variables}
 use Rattle.sparql_parse.specs.OneByOne.{OneByOne}
 use Rattle.sparql_parse.specs.Names.{each_once, HasNumber}
-use Rattle.sparql_parse.specs.Places.{Scope, IsPlaceOf}
+use Rattle.sparql_parse.specs.Places.{Context, IsPlaceOf}
 
 -- three nodes of a block: ';' repeats the subject, and ',' the subject and the verb (4.2.1, 4.2.2)
 pub record NodeTriple : Type 0 where
@@ -37,29 +37,33 @@ with_block pattern [] = pattern
 with_block pattern (same ∷ block) = NodeJoin pattern (NodeBgp (triples_of_block (same ∷ block)))
 
 -- G := LeftJoin(G, P) for OPTIONAL P, and Join(G, P) for a group P that is only nested
-abbrev pub with_parts : NodePattern → Parts → NodePattern
-with_parts pattern NoParts = pattern
-with_parts pattern (OptionalPart block parts next rest) =
-    with_parts (with_block (NodeLeftJoin pattern (with_parts (with_block (NodeBgp []) block) parts)) next) rest
-with_parts pattern (NestedPart block parts next rest) =
-    with_parts (with_block (NodeJoin pattern (with_parts (with_block (NodeBgp []) block) parts)) next) rest
+abbrev pub with_element : ElementKind → NodePattern → NodePattern → NodePattern
+with_element OptionalGroup pattern inner = NodeLeftJoin pattern inner
+with_element NestedGroup pattern inner = NodeJoin pattern inner
+
+-- the elements one after another, and the block after each
+abbrev pub with_elements : NodePattern → Elements → NodePattern
+with_elements pattern EndOfGroup = pattern
+with_elements pattern (Element kind block elements next rest) =
+    let inner = with_elements (with_block (NodeBgp []) block) elements in
+    with_elements (with_block (with_element kind pattern inner) next) rest
 
 -- a group, which begins as the empty basic graph pattern
 abbrev pub translated : Group → NodePattern
-translated group = with_parts (with_block (NodeBgp []) group.block) group.parts
+translated group = with_elements (with_block (NodeBgp []) group.block) group.elements
 
 -- a triple pattern has the places of three nodes
-pub record IsTripleOf (scope : Scope) (triple : NodeTriple) (pattern : TriplePat) : Type 0 where
-  pub subject : IsPlaceOf scope triple.subject pattern.subject
-  pub predicate : IsPlaceOf scope triple.verb pattern.predicate
-  pub object : IsPlaceOf scope triple.object pattern.object
+pub record IsTripleOf (context : Context) (triple : NodeTriple) (pattern : TriplePat) : Type 0 where
+  pub subject : IsPlaceOf context triple.subject pattern.subject
+  pub predicate : IsPlaceOf context triple.verb pattern.predicate
+  pub object : IsPlaceOf context triple.object pattern.object
 
 -- the same pattern, with the triple patterns of its nodes
-abbrev pub IsPatternOf : Scope → NodePattern → Algebra → Type 0
-IsPatternOf scope (NodeBgp triples) (Bgp patterns) = OneByOne (IsTripleOf scope) triples patterns
-IsPatternOf scope (NodeJoin left right) (Join l r) = IsPatternOf scope left l × IsPatternOf scope right r
-IsPatternOf scope (NodeLeftJoin left right) (LeftJoin l r) = IsPatternOf scope left l × IsPatternOf scope right r
-IsPatternOf scope _ _ = ⊥
+abbrev pub IsPatternOf : Context → NodePattern → Algebra → Type 0
+IsPatternOf context (NodeBgp triples) (Bgp patterns) = OneByOne (IsTripleOf context) triples patterns
+IsPatternOf context (NodeJoin left right) (Join l r) = IsPatternOf context left l × IsPatternOf context right r
+IsPatternOf context (NodeLeftJoin left right) (LeftJoin l r) = IsPatternOf context left l × IsPatternOf context right r
+IsPatternOf context _ _ = ⊥
 
 -- its triple patterns are numbered from 1, in the order of the text
 abbrev pub IsNumbered : Algebra → Type 0

@@ -4,5 +4,5 @@ pub mod Building
 pub mod Faults
 pub mod Meaning
 pub mod Names
-pub mod Naming
+pub mod Symbols
 pub mod Reading

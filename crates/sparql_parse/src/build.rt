@@ -9,7 +9,7 @@ ghost use Rattle.query_grammar.specs.declared.syntax.Role.TheVariants as roles;
 ghost use Rattle.alg_model.specs.Pattern.{algebra_of, vars_of};
 ghost use Rattle.alg_model.specs.Limits.{max_triple_patterns};
 ghost use Rattle.sparql_parse.specs.computed.Building.{built, columns_after, in_role, next_settled, pattern_at, settled, start, step};
-ghost use Rattle.sparql_parse.specs.held.Builds.{IsSoundState, IsTranslation, labelled_in, state_in};
+ghost use Rattle.sparql_parse.specs.held.Builds.{IsSoundState, IsTaken, IsTranslation, MayTake, labelled_in, state_in};
 ghost use Rattle.sparql_parse.specs.Faults.{is_object};
 ghost use Rattle.sparql_parse.specs.computed.Meaning.{Scope, each_first};
 ghost use Rattle.sparql_parse.specs.held.Nodes.{IsSound, node_in};
@@ -18,7 +18,7 @@ ghost use Rattle.query_values.specs.reading.Values.{IsSpelled};
 
 use crate::columns::{put_column, put_variables};
 use crate::group::Body;
-use crate::naming::Naming;
+use crate::symbols::SymbolTable;
 use crate::node::{Node, node_of, with_datatype, with_tag};
 use crate::place::{number, place_of};
 use alg_model::{Columns, Pattern, TriplePat};
@@ -41,7 +41,7 @@ pub(crate) struct Translation {
     pub(crate) distinct: bool,
 }
 
-/// What is built of a query behind its tokens so far: the SELECT clause, the open groups, and the triple
+/// What is built of a query after its tokens so far: the SELECT clause, the open groups, and the triple
 /// pattern that is read. The object that was read last is not in the body yet, as a tag or a datatype may
 /// follow.
 #[derive(Debug, Drop)]
@@ -82,28 +82,28 @@ impl<'a> Builder<'a> {
     }
 
     // The triple pattern of an object.
-    fn triple(&self, scope: &Naming, object: Node<'a>) -> Result<TriplePat, AllocError>
+    fn triple(&self, symbols: &SymbolTable, object: Node<'a>) -> Result<TriplePat, AllocError>
         requires sound { IsSoundState (state_in self.now) }
         requires object { IsSound (node_in object) }
-        ensures { let s = state_in self.now in IfOk result (λ t. t ≡ pattern_at (scope_in scope.now) s.body.next (record { subject = s.subject; verb = s.verb; object = node_in object.entry })) }
+        ensures { let s = state_in self.now in IfOk result (λ t. t ≡ pattern_at (scope_in symbols.now) s.body.next (record { subject = s.subject; verb = s.verb; object = node_in object.entry })) }
     {
         Ok(TriplePat {
-            subject: place_of(self.alloc, scope, self.subject)?,
-            predicate: place_of(self.alloc, scope, self.verb)?,
-            object: place_of(self.alloc, scope, object)?,
+            subject: place_of(self.alloc, symbols, self.subject)?,
+            predicate: place_of(self.alloc, symbols, self.verb)?,
+            object: place_of(self.alloc, symbols, object)?,
             number: self.body.next(),
         })
     }
 
     // Puts the object that was read last into the body.
-    fn settle(&mut self, scope: &Naming) -> Result<(), AllocError>
+    fn settle(&mut self, symbols: &SymbolTable) -> Result<(), AllocError>
         requires sound { IsSoundState (state_in self.old) }
         requires few { (state_in self.old).body.next + 1 < 2 ^ 16 }
-        ensures { OnOk result (state_in self.new ≡ settled (scope_in scope.now) (state_in self.old)) }
+        ensures { OnOk result (state_in self.new ≡ settled (scope_in symbols.now) (state_in self.old)) }
     {
         match self.object {
             Some(object) => {
-                let pattern = self.triple(scope, object)?;
+                let pattern = self.triple(symbols, object)?;
                 self.object = None;
                 self.body.push(pattern)
             }
@@ -112,78 +112,60 @@ impl<'a> Builder<'a> {
     }
 
     // A variable of the SELECT clause.
-    fn column(&mut self, scope: &Naming, token: Token<'a>) -> Result<(), AllocError>
-        requires sound { IsSoundState (state_in self.old) }
-        requires few { (state_in self.old).body.next + 1 < 2 ^ 16 }
-        requires spelled { IsSpelled (shown token) }
-        ensures state { OnOk result (state_in self.new ≡ in_role (scope_in scope.now) (state_in self.old) roles.Column (terminal_of (shown token.entry)) (shown token.entry)) }
-        ensures sound { OnOk result (IsSoundState (state_in self.new)) }
+    fn column(&mut self, symbols: &SymbolTable, token: Token<'a>) -> Result<(), AllocError>
+        requires { MayTake (state_in self.old) (shown token) }
+        ensures { OnOk result (IsTaken (scope_in symbols.now) (state_in self.old) roles.Column (shown token.entry) (state_in self.new)) }
     {
-        let var = number(scope, token);
+        let var = number(symbols, token);
         put_column(&mut self.columns, var)
     }
 
     // The `{` of a group.
-    fn open(&mut self, scope: &Naming, token: Token<'a>) -> Result<(), AllocError>
-        requires sound { IsSoundState (state_in self.old) }
-        requires few { (state_in self.old).body.next + 1 < 2 ^ 16 }
-        requires spelled { IsSpelled (shown token) }
-        ensures state { OnOk result (state_in self.new ≡ in_role (scope_in scope.now) (state_in self.old) roles.Open (terminal_of (shown token.entry)) (shown token.entry)) }
-        ensures sound { OnOk result (IsSoundState (state_in self.new)) }
+    fn open(&mut self, symbols: &SymbolTable, token: Token<'a>) -> Result<(), AllocError>
+        requires { MayTake (state_in self.old) (shown token) }
+        ensures { OnOk result (IsTaken (scope_in symbols.now) (state_in self.old) roles.Open (shown token.entry) (state_in self.new)) }
     {
-        self.settle(scope)?;
+        self.settle(symbols)?;
         self.body.open(self.optional)?;
         self.optional = false;
         Ok(())
     }
 
     // The `}` of a group.
-    fn close(&mut self, scope: &Naming, token: Token<'a>) -> Result<(), AllocError>
-        requires sound { IsSoundState (state_in self.old) }
-        requires few { (state_in self.old).body.next + 1 < 2 ^ 16 }
-        requires spelled { IsSpelled (shown token) }
-        ensures state { OnOk result (state_in self.new ≡ in_role (scope_in scope.now) (state_in self.old) roles.Close (terminal_of (shown token.entry)) (shown token.entry)) }
-        ensures sound { OnOk result (IsSoundState (state_in self.new)) }
+    fn close(&mut self, symbols: &SymbolTable, token: Token<'a>) -> Result<(), AllocError>
+        requires { MayTake (state_in self.old) (shown token) }
+        ensures { OnOk result (IsTaken (scope_in symbols.now) (state_in self.old) roles.Close (shown token.entry) (state_in self.new)) }
     {
-        self.settle(scope)?;
+        self.settle(symbols)?;
         self.body.close()
     }
 
     // The first token of a subject.
-    fn subject(&mut self, scope: &Naming, token: Token<'a>) -> Result<(), AllocError>
-        requires sound { IsSoundState (state_in self.old) }
-        requires few { (state_in self.old).body.next + 1 < 2 ^ 16 }
-        requires spelled { IsSpelled (shown token) }
-        ensures state { OnOk result (state_in self.new ≡ in_role (scope_in scope.now) (state_in self.old) roles.Subject (terminal_of (shown token.entry)) (shown token.entry)) }
-        ensures sound { OnOk result (IsSoundState (state_in self.new)) }
+    fn subject(&mut self, symbols: &SymbolTable, token: Token<'a>) -> Result<(), AllocError>
+        requires { MayTake (state_in self.old) (shown token) }
+        ensures { OnOk result (IsTaken (scope_in symbols.now) (state_in self.old) roles.Subject (shown token.entry) (state_in self.new)) }
     {
-        self.settle(scope)?;
+        self.settle(symbols)?;
         self.subject = node_of(token);
         Ok(())
     }
 
     // The token of a verb.
-    fn verb(&mut self, scope: &Naming, token: Token<'a>) -> Result<(), AllocError>
-        requires sound { IsSoundState (state_in self.old) }
-        requires few { (state_in self.old).body.next + 1 < 2 ^ 16 }
-        requires spelled { IsSpelled (shown token) }
-        ensures state { OnOk result (state_in self.new ≡ in_role (scope_in scope.now) (state_in self.old) roles.Verb (terminal_of (shown token.entry)) (shown token.entry)) }
-        ensures sound { OnOk result (IsSoundState (state_in self.new)) }
+    fn verb(&mut self, symbols: &SymbolTable, token: Token<'a>) -> Result<(), AllocError>
+        requires { MayTake (state_in self.old) (shown token) }
+        ensures { OnOk result (IsTaken (scope_in symbols.now) (state_in self.old) roles.Verb (shown token.entry) (state_in self.new)) }
     {
-        self.settle(scope)?;
+        self.settle(symbols)?;
         self.verb = node_of(token);
         Ok(())
     }
 
     // The first token of an object.
-    fn object(&mut self, scope: &Naming, token: Token<'a>) -> Result<(), AllocError>
-        requires sound { IsSoundState (state_in self.old) }
-        requires few { (state_in self.old).body.next + 1 < 2 ^ 16 }
-        requires spelled { IsSpelled (shown token) }
-        ensures state { OnOk result (state_in self.new ≡ in_role (scope_in scope.now) (state_in self.old) roles.Object (terminal_of (shown token.entry)) (shown token.entry)) }
-        ensures sound { OnOk result (IsSoundState (state_in self.new)) }
+    fn object(&mut self, symbols: &SymbolTable, token: Token<'a>) -> Result<(), AllocError>
+        requires { MayTake (state_in self.old) (shown token) }
+        ensures { OnOk result (IsTaken (scope_in symbols.now) (state_in self.old) roles.Object (shown token.entry) (state_in self.new)) }
     {
-        self.settle(scope)?;
+        self.settle(symbols)?;
         self.object = Some(node_of(token));
         Ok(())
     }
@@ -215,13 +197,9 @@ impl<'a> Builder<'a> {
     }
 
     // Takes a token in its role. Where memory runs out, nothing is said of the builder.
-    #[tactic(auto, unfolding(crate::specs::computed::Building::step))]
-    fn take(&mut self, scope: &Naming, role: Role, token: Token<'a>) -> Result<(), AllocError>
-        requires sound { IsSoundState (state_in self.old) }
-        requires few { (state_in self.old).body.next + 1 < 2 ^ 16 }
-        requires spelled { IsSpelled (shown token) }
-        ensures state { OnOk result (state_in self.new ≡ step (scope_in scope.now) (state_in self.old) (with_role role (shown token.entry))) }
-        ensures sound { OnOk result (IsSoundState (state_in self.new)) }
+    fn take(&mut self, symbols: &SymbolTable, role: Role, token: Token<'a>) -> Result<(), AllocError>
+        requires { MayTake (state_in self.old) (shown token) }
+        ensures { OnOk result (IsTaken (scope_in symbols.now) (state_in self.old) role (shown token.entry) (state_in self.new)) }
     {
         match role {
             Role::Keyword | Role::Declared | Role::Namespace => Ok(()),
@@ -237,12 +215,12 @@ impl<'a> Builder<'a> {
                 self.optional = true;
                 Ok(())
             }
-            Role::Column => self.column(scope, token),
-            Role::Open => self.open(scope, token),
-            Role::Close => self.close(scope, token),
-            Role::Subject => self.subject(scope, token),
-            Role::Verb => self.verb(scope, token),
-            Role::Object => self.object(scope, token),
+            Role::Column => self.column(symbols, token),
+            Role::Open => self.open(symbols, token),
+            Role::Close => self.close(symbols, token),
+            Role::Subject => self.subject(symbols, token),
+            Role::Verb => self.verb(symbols, token),
+            Role::Object => self.object(symbols, token),
             Role::Tag => {
                 self.tag(token);
                 Ok(())
@@ -291,16 +269,16 @@ fn columns_of(
 // Takes tokens in a row.
 fn take_all<'a>(
     builder: &mut Builder<'a>,
-    scope: &Naming,
+    symbols: &SymbolTable,
     tokens: &[ReadToken<'a>],
 ) -> Result<(), AllocError>
     requires sound { IsSoundState (state_in builder.old) }
     requires few { next_settled (state_in builder.old) + count_of is_object (map labelled_in tokens.now) + 1 < 2 ^ 16 }
     requires spelled { All (λ token. IsSpelled (shown token.token)) tokens.now }
-    ensures { OnOk result (state_in builder.new ≡ built (scope_in scope.now) (state_in builder.old) (map labelled_in tokens.now)) }
+    ensures { OnOk result (state_in builder.new ≡ built (scope_in symbols.now) (state_in builder.old) (map labelled_in tokens.now)) }
 {
     for read in tokens {
-        builder.take(scope, read.role, read.token)?;
+        builder.take(symbols, read.role, read.token)?;
     }
     Ok(())
 }
@@ -308,14 +286,14 @@ fn take_all<'a>(
 /// What a query means, of which these are the tokens in their roles, and these the names and namespaces.
 pub(crate) fn translate(
     alloc: Global,
-    scope: &Naming,
+    symbols: &SymbolTable,
     tokens: &[ReadToken<'_>],
 ) -> Result<Translation, AllocError>
     requires few { count_of is_object (map labelled_in tokens.now) ≤ max_triple_patterns }
     requires spelled { All (λ token. IsSpelled (shown token.token)) tokens.now }
-    ensures { (tree : Syntax) → IsQuery tree (map labelled_in tokens.now) → IfOk result (IsTranslation (scope_in scope.now) tree) }
+    ensures { (tree : Syntax) → IsQuery tree (map labelled_in tokens.now) → IfOk result (IsTranslation (scope_in symbols.now) tree) }
 {
     let mut builder = Builder::new(alloc);
-    take_all(&mut builder, scope, tokens)?;
+    take_all(&mut builder, symbols, tokens)?;
     builder.finish()
 }

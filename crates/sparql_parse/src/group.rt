@@ -33,7 +33,7 @@ fn empty_pattern(alloc: Global) -> Pattern
     Pattern::Bgp(PatList::new(alloc))
 }
 
-// A pattern with a block behind it, if there is one.
+// A pattern with a block after it, if there is one.
 fn joined_block(alloc: Global, pattern: Pattern, block: PatList) -> Result<Pattern, AllocError>
     ensures { IfOk result (λ joined. algebra_of joined ≡ joined_block (algebra_of pattern) block) }
 {

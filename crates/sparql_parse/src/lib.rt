@@ -9,7 +9,7 @@ mod fault;
 mod group;
 mod laws;
 mod namespaces;
-mod naming;
+mod symbols;
 mod node;
 mod place;
 mod query;

@@ -39,7 +39,7 @@ pub(crate) fn node_of<'a>(token: Token<'a>) -> Node<'a>
     }
 }
 
-/// A string with the tag behind it; another node stays as it is, and so it does where the token is no tag.
+/// A string with the tag after it; another node stays as it is, and so it does where the token is no tag.
 pub(crate) fn with_tag<'a>(tag: Token<'a>, node: Node<'a>) -> Node<'a>
     requires spelled { IsSpelled (shown tag) }
     requires sound { IsSound (node_in node) }
@@ -52,7 +52,7 @@ pub(crate) fn with_tag<'a>(tag: Token<'a>, node: Node<'a>) -> Node<'a>
     }
 }
 
-/// A string with the IRI of the datatype behind it; another node stays as it is, and so it does where the
+/// A string with the IRI of the datatype after it; another node stays as it is, and so it does where the
 /// token is no IRI.
 pub(crate) fn with_datatype<'a>(datatype: Token<'a>, node: Node<'a>) -> Node<'a>
     requires spelled { IsSpelled (shown datatype) }

@@ -14,19 +14,19 @@ ghost use Rattle.query_grammar.specs.Words.{unsupported_word};
 
 use crate::build::{ReadToken, translate};
 use crate::fault::QueryFault;
-use crate::naming::Naming;
+use crate::symbols::SymbolTable;
 use alg_model::Query;
 use query_grammar::{Role, State, next, terminal_of, unsupported_word};
 use query_tokens::{Token, text_tokens};
 use std::alloc::{AllocError, Global};
 
-/// What is read of a query: its tokens in their roles, where it stands behind them, and what is kept of
+/// What is read of a query: its tokens in their roles, where it stands after them, and what is kept of
 /// them.
 #[derive(Debug, Drop)]
 pub(crate) struct Reader<'a> {
     pub(crate) tokens: Vec<ReadToken<'a>>,
     pub(crate) state: State,
-    pub(crate) naming: Naming,
+    pub(crate) symbols: SymbolTable,
 }
 
 impl<'a> Reader<'a> {
@@ -38,7 +38,7 @@ impl<'a> Reader<'a> {
         Reader {
             tokens: Vec::new(alloc),
             state: State::start(),
-            naming: Naming::new(alloc),
+            symbols: SymbolTable::new(alloc),
         }
     }
 
@@ -55,7 +55,7 @@ impl<'a> Reader<'a> {
             None => Err(grammar_fault(token)),
             Some(step) => {
                 match self
-                    .naming
+                    .symbols
                     .take(step.role, terminal, token, step.state.groups)
                 {
                     Ok(()) => {}
@@ -75,9 +75,9 @@ impl<'a> Reader<'a> {
         ensures query { IfOk result (λ query. abstract_of query ≡ query_of (labels_in self.entry)) }
         ensures limits { IfOk result KeepsLimits }
     {
-        let translation = translate(alloc, &self.naming, self.tokens.as_slice())?;
+        let translation = translate(alloc, &self.symbols, self.tokens.as_slice())?;
         Ok(Query {
-            names: self.naming.into_names(),
+            names: self.symbols.into_names(),
             pattern: translation.pattern,
             columns: translation.columns,
             distinct: translation.distinct,

@@ -2,7 +2,7 @@
 ghost use Rattle.std.specs.Prelude.{◌≡◌, ◌≤◌};
 ghost use Rattle.alg_model.specs.Limits.{max_triple_patterns, max_optionals, max_groups};
 ghost use Rattle.sparql_parse.specs.computed.Faults.{limit_among};
-ghost use Rattle.sparql_parse.specs.computed.Naming.{counts_with, tally_after};
+ghost use Rattle.sparql_parse.specs.computed.Symbols.{counts_with, tally_after};
 
 use crate::fault::QueryFault;
 use alg_model::{MAX_GROUPS, MAX_OPEN_GROUPS, MAX_OPTIONALS, MAX_TRIPLE_PATTERNS, MAX_VARIABLES};
@@ -18,7 +18,7 @@ pub(crate) struct Tally {
 
 impl Tally {
     /// The same with one token more, in this role.
-    pub(crate) fn behind(self, role: Role) -> Tally
+    pub(crate) fn after(self, role: Role) -> Tally
         requires objects { self.objects ≤ max_triple_patterns }
         requires optionals { self.optionals ≤ max_optionals }
         requires groups { self.groups ≤ max_groups }

@@ -44,7 +44,7 @@ prefix_of token = before (chars token.text) (from_colon (chars token.text))
 unfoldable pub is_no_backslash : ℕ → Bool
 is_no_backslash c = not (c == backslash)
 
--- the local name of a prefixed name: what stands behind the colon, without the backslashes of its escapes
+-- the local name of a prefixed name: what stands after the colon, without the backslashes of its escapes
 unfoldable pub local_of : Lexeme → List ℕ
 local_of token = filter is_no_backslash (after_first (from_colon (chars token.text)))
 

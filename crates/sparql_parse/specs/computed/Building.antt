@@ -27,7 +27,7 @@ node_of terminals.Number token = NumberNode token
 node_of terminals.Boolean token = BooleanNode token
 node_of _ token = TypeNode token
 
--- a string with the tag behind it
+-- a string with the tag after it
 abbrev pub with_tag_text : Lexeme → Node → Node
 with_tag_text tag (StringNode token) = TaggedNode token tag
 with_tag_text tag node = node
@@ -36,7 +36,7 @@ abbrev pub with_tag : Terminal → Lexeme → Node → Node
 with_tag terminals.Tag tag node = with_tag_text tag node
 with_tag _ tag node = node
 
--- a string with the datatype behind it
+-- a string with the datatype after it
 abbrev pub with_iri : Lexeme → Node → Node
 with_iri datatype (StringNode token) = TypedNode token datatype
 with_iri datatype node = node
@@ -57,7 +57,7 @@ pub record OpenGroup : Type 0 where
 abbrev pub new_group : Bool → OpenGroup
 new_group optional = record { pattern = Bgp []; block = []; optional = optional }
 
--- the pattern with a block behind it, if there is one
+-- the pattern with a block after it, if there is one
 abbrev pub joined_block : Algebra → List TriplePat → Algebra
 joined_block pattern [] = pattern
 joined_block pattern (t ∷ ts) = Join pattern (Bgp (t ∷ ts))
@@ -168,7 +168,7 @@ in_role scope s _ terminal token = s
 unfoldable pub step : Scope → State → Labelled → State
 step scope s l = in_role scope s l.role (terminal_of l.token) l.token
 
--- the state behind some tokens
+-- the state after some tokens
 abbrev pub built : Scope → State → List Labelled → State
 built scope s labelled = fold (step scope) s labelled
 

@@ -54,6 +54,6 @@ abbrev pub fault_among : List Namespace → Labelled → Counts → Option Query
 fault_among namespaces l counts =
     if is_unknown namespaces l then Some (faults.UnknownPrefix l.token.at) else limit_among l.token.at counts
 
--- the fault of a token behind some others, none of which has one: prefixes are declared before it, and it counts itself
+-- the fault of a token after some others, none of which has one: prefixes are declared before it, and it counts itself
 unfoldable pub fault_of : List Labelled → Labelled → Option QueryFault
 fault_of before l = fault_among (namespaces_of before) l (counts_of (before ++ l ∷ []))

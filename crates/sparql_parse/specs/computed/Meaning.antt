@@ -9,7 +9,7 @@ use Rattle.alg_model.specs.declared.pattern.Place.{Place}
 use Rattle.alg_model.specs.declared.pattern.Place.TheVariants as places
 use Rattle.alg_model.specs.declared.pattern.TriplePat.{TriplePat}
 use Rattle.alg_model.specs.Pattern.{Algebra, Bgp, Join, LeftJoin, vars_of}
-use Rattle.query_grammar.specs.Tree.{Node, VariableNode, IriNode, StringNode, TaggedNode, TypedNode, NumberNode, BooleanNode, TypeNode, Same, Parts, NoParts, OptionalPart, NestedPart, Group, Columns, AllColumns, Variables}
+use Rattle.query_grammar.specs.Tree.{Node, VariableNode, IriNode, StringNode, TaggedNode, TypedNode, NumberNode, BooleanNode, TypeNode, Same, ElementKind, Elements, EndOfGroup, Element, OptionalGroup, NestedGroup, Group, Columns, AllColumns, Variables}
 use Rattle.query_grammar.specs.Roles.{Labelled}
 use Rattle.sparql_parse.specs.Names.{with_item, each_once}
 use Rattle.sparql_parse.specs.Translation.{NodeTriple, triples_of_block}
@@ -73,6 +73,10 @@ pub record Translated : Type 0 where
 abbrev pub empty_group : ℕ → Translated
 empty_group n = record { pattern = Bgp []; next = n }
 
+abbrev pub combined_as : ElementKind → Algebra → Algebra → Algebra
+combined_as OptionalGroup left right = LeftJoin left right
+combined_as NestedGroup left right = Join left right
+
 module _ (scope : Scope) where
   -- G := Join(G, the basic graph pattern of a block); no block changes nothing
   abbrev pub with_block : Translated → List Same → Translated
@@ -82,18 +86,15 @@ module _ (scope : Scope) where
       record { pattern = Join g.pattern (Bgp (patterns_from scope g.next triples)); next = g.next + length triples }
 
   -- G := LeftJoin(G, P) for OPTIONAL P, and Join(G, P) for a group P that is only nested
-  abbrev pub with_parts : Translated → Parts → Translated
-  with_parts g NoParts = g
-  with_parts g (OptionalPart block parts next rest) =
-      let inner = with_parts (with_block (empty_group g.next) block) parts in
-      with_parts (with_block (record { pattern = LeftJoin g.pattern inner.pattern; next = inner.next }) next) rest
-  with_parts g (NestedPart block parts next rest) =
-      let inner = with_parts (with_block (empty_group g.next) block) parts in
-      with_parts (with_block (record { pattern = Join g.pattern inner.pattern; next = inner.next }) next) rest
+  abbrev pub with_elements : Translated → Elements → Translated
+  with_elements g EndOfGroup = g
+  with_elements g (Element kind block elements next rest) =
+      let inner = with_elements (with_block (empty_group g.next) block) elements in
+      with_elements (with_block (record { pattern = combined_as kind g.pattern inner.pattern; next = inner.next }) next) rest
 
   -- the pattern of the query's group
   abbrev pub pattern_of : Group → Algebra
-  pattern_of group = (with_parts (with_block (empty_group 1) group.block) group.parts).pattern
+  pattern_of group = (with_elements (with_block (empty_group 1) group.block) group.elements).pattern
 
 -- a number at the end of some numbers, unless it stands there
 abbrev pub with_number : List ℕ → ℕ → List ℕ

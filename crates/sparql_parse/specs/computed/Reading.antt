@@ -13,7 +13,7 @@ use Rattle.query_grammar.specs.declared.expect.Step.{Step}
 use Rattle.query_grammar.specs.Terminals.{terminal_of}
 use Rattle.query_grammar.specs.Words.{unsupported_word}
 use Rattle.query_grammar.specs.Roles.{Labelled, with_role}
-use Rattle.query_grammar.specs.Expecting.{start, next_step, Reading}
+use Rattle.query_grammar.specs.Expecting.{start, next_step, Progress}
 use Rattle.alg_model.specs.Query.{AbstractQuery}
 use Rattle.alg_model.specs.declared.var.Var.{Var}
 use Rattle.sparql_parse.specs.declared.fault.QueryFault.{QueryFault}
@@ -48,31 +48,31 @@ unfoldable pub tokens_read : List ℕ → List Lexeme
 tokens_read source = tokens_from (length (chars source)) 0 (chars source)
 
 -- before the first token
-abbrev pub first : Reading
+abbrev pub first : Progress
 first = record { labelled = []; state = start }
 
 -- one token more, unless it has a fault
-abbrev pub unless_fault : Reading → Option QueryFault → Result Reading QueryFault
+abbrev pub unless_fault : Progress → Option QueryFault → Result Progress QueryFault
 unless_fault reading None = Ok reading
 unless_fault reading (Some fault) = Err fault
 
-abbrev pub read_step : Reading → Lexeme → Option Step → Result Reading QueryFault
+abbrev pub read_step : Progress → Lexeme → Option Step → Result Progress QueryFault
 read_step reading token None = Err (word_fault token.at (unsupported_word token))
 read_step reading token (Some step) =
     unless_fault
     (record { labelled = reading.labelled ++ with_role step.role token ∷ []; state = step.state })
     (fault_of reading.labelled (with_role step.role token))
 
-unfoldable pub read_next : Reading → Lexeme → Result Reading QueryFault
+unfoldable pub read_next : Progress → Lexeme → Result Progress QueryFault
 read_next reading token = read_step reading token (next_step reading.state (terminal_of token))
 
--- a result, and what is read behind it
+-- a result, and what is read after it
 abbrev pub and_then : {A B : Type 0} → (A → Result B QueryFault) → Result A QueryFault → Result B QueryFault
 and_then f (Ok a) = f a
 and_then f (Err fault) = Err fault
 
 -- tokens, up to the first fault
-unfoldable pub read_on : Reading → List Lexeme → Result Reading QueryFault
+unfoldable pub read_on : Progress → List Lexeme → Result Progress QueryFault
 read_on reading [] = Ok reading
 read_on reading (token ∷ tokens) = and_then (λ next. read_on next tokens) (read_next reading token)
 
@@ -90,7 +90,7 @@ abbrev pub is_end : Expect → Bool
 is_end expects.End = true
 is_end _ = false
 
-abbrev pub query_at_end : ℕ → Reading → Result AbstractQuery QueryFault
+abbrev pub query_at_end : ℕ → Progress → Result AbstractQuery QueryFault
 query_at_end size reading = if is_end reading.state.expect then Ok (query_of reading.labelled) else Err (faults.Syntax size)
 
 -- the same of a text that is UTF-8

@@ -7,6 +7,6 @@ use Rattle.sparql_parse.proofs.build.take_all.Given as goal
 
 abbrev pub invariant-loop-read : goal.invariant-loop-read
 invariant-loop-read l = record {
-  is : state_in l.builder ≡ built (scope_in l.scope) (state_in l.initial.builder) (take l.read-index (map labelled_in l.tokens));
+  is : state_in l.builder ≡ built (scope_in l.symbols) (state_in l.initial.builder) (take l.read-index (map labelled_in l.tokens));
   sound : IsSoundState (state_in l.builder);
 }

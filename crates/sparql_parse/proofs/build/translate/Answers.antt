@@ -9,7 +9,7 @@ use Rattle.sparql_parse.proofs.build.translate.Goals as goal
 
 pub returns : goal.returns
 returns c =
-    let scope = scope_in c.args.scope.now in
+    let scope = scope_in c.args.symbols.now in
     let ls = map labelled_in c.args.tokens.now in
     let is = c.in_ok-take_all.ensures ∙ ap (λ (s : State). built scope s ls) c.new-builder.ensures.state in
     λ tree query.

@@ -19,6 +19,6 @@ pub returns-in_default : goal.returns-in_default
 returns-in_default c =
     let token = shown c.args.token in
     record {
-      iri = ok_same (λ s. chars (string_bytes s)) c.iri.result (iri_of token) (iri_in (scope_in c.args.scope.now) token) (iri_in-other (scope_in c.args.scope.now) token c.in_default.not-Prefix c.in_default.not-Prefixed) c.iri.ensures;
+      iri = ok_same (λ s. chars (string_bytes s)) c.iri.result (iri_of token) (iri_in (scope_in c.args.symbols.now) token) (iri_in-other (scope_in c.args.symbols.now) token c.in_default.not-Prefix c.in_default.not-Prefixed) c.iri.ensures;
       characters = ok_irichars (λ s. chars (string_bytes s)) c.iri.result (iri_of token) (iri_of-irichars token) c.iri.ensures;
     }

@@ -8,7 +8,7 @@ use Rattle.sparql_parse.proofs.place.namespace.Goals as goal
 
 pub returns-in-None-clause-namespace : goal.returns-in-None-clause-namespace
 returns-in-None-clause-namespace c =
-    let found = c.in-None.ensures.found ∙ ap (namespace_of (scope_in c.args.scope.now).namespaces) c.prefix.ensures in
+    let found = c.in-None.ensures.found ∙ ap (namespace_of (scope_in c.args.symbols.now).namespaces) c.prefix.ensures in
     chars-nil ∙ ap (λ (o : Option (List ℕ)). option_map_or (λ iri. iri) o []) found
 
 pub returns-in-None-clause-iri : goal.returns-in-None-clause-iri

@@ -18,12 +18,12 @@ pub returns-clause-query : goal.returns-clause-query
 returns-clause-query c =
     let t = c.in_ok-translation.translation in
     ap (λ names. query_with names (algebra_of t.pattern) t.columns t.distinct) c.into_names.ensures
-    ∙ kept-query (labels_in c.args.self) c.args.self.state c.args.self.naming t c.requires.kept c.requires.at_end
+    ∙ kept-query (labels_in c.args.self) c.args.self.state c.args.self.symbols t c.requires.kept c.requires.at_end
     (λ tree query. c.in_ok-translation.ensures tree (subst (λ (xs : List ReadToken). IsQuery tree (map labelled_in xs)) (sym c.as_slice.ensures.value) query))
 
 pub returns-clause-limits : goal.returns-clause-limits
 returns-clause-limits c =
     let t = c.in_ok-translation.translation in
-    kept-limits (labels_in c.args.self) c.args.self.state c.args.self.naming t _ c.requires.kept c.requires.at_end
+    kept-limits (labels_in c.args.self) c.args.self.state c.args.self.symbols t _ c.requires.kept c.requires.at_end
     (λ tree query. c.in_ok-translation.ensures tree (subst (λ (xs : List ReadToken). IsQuery tree (map labelled_in xs)) (sym c.as_slice.ensures.value) query))
     c.into_names.ensures refl refl refl

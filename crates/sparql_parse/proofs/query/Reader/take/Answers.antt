@@ -22,7 +22,7 @@ pub returns-in-Err : goal.returns-in-Err
 returns-in-Err c =
     let token = shown c.args.token in
     let is : next_step c.args.self.now.state (terminal_of token) ≡ Some c.in-Some.step = ap (next_step c.args.self.now.state) (sym c.terminal_of-terminal.ensures) ∙ sym c.in-Some.ensures in
-    let same = fault-step (labels_in c.args.self.now) c.args.self.now.state c.args.self.now.naming token c.in-Some.step c.requires.kept is in
+    let same = fault-step (labels_in c.args.self.now) c.args.self.now.state c.args.self.now.symbols token c.in-Some.step c.requires.kept is in
     record {
       read = tt;
       kept = tt;
@@ -36,7 +36,7 @@ pub returns-in_ok-put_token-in-Some-clause-read : goal.returns-in_ok-put_token-i
 returns-in_ok-put_token-in-Some-clause-read c =
     let token = shown c.args.token in
     let is : next_step c.args.self.now.state (terminal_of token) ≡ Some c.in-Some.step = ap (next_step c.args.self.now.state) (sym c.terminal_of-terminal.ensures) ∙ sym c.in-Some.ensures in
-    let same = fault-step (labels_in c.args.self.now) c.args.self.now.state c.args.self.now.naming token c.in-Some.step c.requires.kept is in
+    let same = fault-step (labels_in c.args.self.now) c.args.self.now.state c.args.self.now.symbols token c.in-Some.step c.requires.kept is in
     next-read (reading_in c.args.self.now) token c.in-Some.step is (same ∙ c.in-Ok.ensures.none)
     ∙ ap (λ labelled. Ok (reading_at labelled c.in-Some.step.state)) (sym (c.in_ok-put_token-in-Some.ensures))
 
@@ -45,7 +45,7 @@ returns-in_ok-put_token-in-Some-clause-kept c =
     let token = shown c.args.token in
     let step = c.in-Some.step in
     let is : next_step c.args.self.now.state (terminal_of token) ≡ Some step = ap (next_step c.args.self.now.state) (sym c.terminal_of-terminal.ensures) ∙ sym c.in-Some.ensures in
-    let kept = kept-step (labels_in c.args.self.now) c.args.self.now.state c.args.self.now.naming token step c.requires.kept is (c.in-Ok.ensures.none) (read-spelled c.args.self.now.state token step is c.requires.spelled) in
+    let kept = kept-step (labels_in c.args.self.now) c.args.self.now.state c.args.self.now.symbols token step c.requires.kept is (c.in-Ok.ensures.none) (read-spelled c.args.self.now.state token step is c.requires.spelled) in
     let labels = c.in_ok-put_token-in-Some.ensures in
     let naming = c.in-Ok.ensures.kept in
     rw (labels, naming) kept

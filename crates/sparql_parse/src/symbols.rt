@@ -8,7 +8,7 @@ ghost use Rattle.query_values.specs.reading.Values.{AreIriChars, IsSpelled};
 ghost use Rattle.alg_model.specs.Limits.{max_variables};
 ghost use Rattle.sparql_parse.specs.computed.Names.{is_text, namespace_of, names_after};
 ghost use Rattle.sparql_parse.specs.computed.Faults.{is_unknown, uses_prefix};
-ghost use Rattle.sparql_parse.specs.computed.Naming.{IsWithin, fault_after, is_new_name, kept_after, kept_of};
+ghost use Rattle.sparql_parse.specs.computed.Symbols.{IsWithin, fault_after, is_new_name, symbols_after, symbols_of};
 
 use crate::fault::QueryFault;
 use crate::namespaces::Namespaces;
@@ -21,33 +21,33 @@ use std::alloc::{AllocError, Global};
 use std::marker::Model;
 
 /// What is kept of the tokens of a query so far: the names of its variables, the declarations of its
-/// prefixes, and how many there are of what has a limit. Contracts see it as `Kept`.
+/// prefixes, and how many there are of what has a limit. Contracts see it as `Symbols`.
 #[derive(Debug, Drop)]
-pub(crate) struct Naming {
+pub(crate) struct SymbolTable {
     alloc: Global,
     names: Names,
     namespaces: Namespaces,
     tally: Tally,
 }
 
-impl Model for Naming {
+impl Model for SymbolTable {
     ghost use Rattle.std.specs.Prelude.{◌≤◌, length};
-    ghost use Rattle.sparql_parse.specs.computed.Naming.{Kept, IsWithin};
+    ghost use Rattle.sparql_parse.specs.computed.Symbols.{Symbols, IsWithin};
 
-    ghost Value = { Kept };
+    ghost Value = { Symbols };
 
     ghost view = { λ n. record { names = n.names; declarations = n.namespaces; tally = n.tally } };
 
     ghost invariant = { λ n. IsWithin n.names n.tally };
 }
 
-impl Naming {
+impl SymbolTable {
     /// Before the first token.
     #[tactic(auto, unfolding(crate::specs::computed::Names::names_of, crate::specs::computed::Names::declarations_of))]
-    pub(crate) fn new(alloc: Global) -> Naming
-        ensures { result ≡ kept_of [] }
+    pub(crate) fn new(alloc: Global) -> SymbolTable
+        ensures { result ≡ symbols_of [] }
     {
-        Naming {
+        SymbolTable {
             alloc,
             names: Names::new(alloc),
             namespaces: Namespaces::new(alloc),
@@ -79,7 +79,7 @@ impl Naming {
     pub(crate) fn into_names(self) -> Names
         ensures { result ≡ self.names }
     {
-        let Naming {
+        let SymbolTable {
             alloc: _,
             names,
             namespaces: _,
@@ -88,8 +88,8 @@ impl Naming {
         names
     }
 
-    /// Takes a token in its role, behind which so many groups are open. `Err` is the token's fault, and
-    /// then the naming is of no use; or memory ran out.
+    /// Takes a token in its role, after which so many groups are open. `Err` is the token's fault, and
+    /// then the table is of no use; or memory ran out.
     pub(crate) fn take(
         &mut self,
         role: Role,
@@ -99,7 +99,7 @@ impl Naming {
     ) -> Result<(), QueryFault>
         requires spelled { IsSpelled (shown token) }
         requires terminal { terminal ≡ terminal_of (shown token) }
-        ensures kept { OnOk result (self.new ≡ kept_after self.old (with_role role (shown token.entry))) }
+        ensures kept { OnOk result (self.new ≡ symbols_after self.old (with_role role (shown token.entry))) }
         ensures none { OnOk result (fault_after self.old depth (with_role role (shown token.entry)) ≡ None) }
         ensures fault { IfErr result (λ fault. (fault ≡ QueryFault.Memory) ⊎ (fault_after self.old depth (with_role role (shown token.entry)) ≡ Some fault)) }
     {
@@ -124,7 +124,7 @@ impl Naming {
         if self.is_unknown(role, token) {
             return Some(QueryFault::UnknownPrefix { at: token.at });
         }
-        let tally = self.tally.behind(role);
+        let tally = self.tally.after(role);
         tally.fault(self.names_after(terminal, token), depth, token.at)
     }
 
@@ -136,7 +136,7 @@ impl Naming {
         uses_prefix(token.kind, role) && self.namespaces.find(prefix(token)).is_none()
     }
 
-    // How many names there are behind a token.
+    // How many names there are after a token.
     fn names_after(&self, terminal: Terminal, token: Token<'_>) -> usize
         ensures { result ≡ length (names_after self.now.names terminal (shown token.entry)) }
     {
@@ -151,12 +151,12 @@ impl Naming {
     fn keep(&mut self, role: Role, terminal: Terminal, token: Token<'_>) -> Result<(), AllocError>
         requires spelled { IsSpelled (shown token) }
         requires terminal { terminal ≡ terminal_of (shown token) }
-        requires within { let behind = kept_after self.old (with_role role (shown token)) in IsWithin behind.names behind.tally }
-        ensures { OnOk result (self.new ≡ kept_after self.old (with_role role (shown token.entry))) }
+        requires within { let after = symbols_after self.old (with_role role (shown token)) in IsWithin after.names after.tally }
+        ensures { OnOk result (self.new ≡ symbols_after self.old (with_role role (shown token.entry))) }
     {
         add_name(&mut self.names, terminal, token)?;
         self.namespaces.take(self.alloc, role, token)?;
-        self.tally = self.tally.behind(role);
+        self.tally = self.tally.after(role);
         Ok(())
     }
 }

@@ -1,4 +1,4 @@
--- What is kept behind one token more, and the faults by what is kept.
+-- What is kept after one token more, and the faults by what is kept.
 use Rattle.std.proofs.Common.{◌≡◌, Bool, List, [], ◌∷◌, ◌++◌, refl, arith}
 use Rattle.std.proofs.lemmas.List.Sums.{fold-append}
 use Rattle.query_grammar.specs.declared.syntax.Role.{Role}
@@ -8,7 +8,7 @@ use Rattle.query_grammar.proofs.Counts.{one-more, count-cons}
 use Rattle.sparql_parse.specs.computed.Names.{no_declarations, names_of, names_after, declarations_of, declarations_after}
 use Rattle.sparql_parse.specs.Faults.{is_object, is_optional}
 use Rattle.sparql_parse.specs.computed.Faults.{fault_of}
-use Rattle.sparql_parse.specs.computed.Naming.{one_more, kept_of, kept_after, fault_after}
+use Rattle.sparql_parse.specs.computed.Symbols.{one_more, symbols_of, symbols_after, fault_after}
 
 pub names-more : (ls : List Labelled) (l : Labelled) → names_of (ls ++ l ∷ []) ≡ names_after (names_of ls) (terminal_of l.token) l.token
 unfolding names_of
@@ -28,11 +28,11 @@ count-more is_such (m ∷ ls) l =
     let last_behind = one-more (is_such l.role) (count_of is_such ls) in
     omega arith
 
--- what is kept behind one token more
-pub kept-more : (ls : List Labelled) (l : Labelled) → kept_of (ls ++ l ∷ []) ≡ kept_after (kept_of ls) l
+-- what is kept after one token more
+pub kept-more : (ls : List Labelled) (l : Labelled) → symbols_of (ls ++ l ∷ []) ≡ symbols_after (symbols_of ls) l
 kept-more ls l = rw (names-more ls l, declarations-more ls l, count-more is_object ls l, count-more is_optional ls l, count-more is_open ls l) refl
 
 -- the fault of a token is told by what is kept of those before it
-pub fault-kept : (ls : List Labelled) (l : Labelled) → fault_of ls l ≡ fault_after (kept_of ls) (open_groups (ls ++ l ∷ [])) l
+pub fault-kept : (ls : List Labelled) (l : Labelled) → fault_of ls l ≡ fault_after (symbols_of ls) (open_groups (ls ++ l ∷ [])) l
 unfolding fault_of fault_after
 fault-kept ls l = rw (names-more ls l, count-more is_object ls l, count-more is_optional ls l, count-more is_open ls l) refl

@@ -4,9 +4,9 @@ use Rattle.std.specs.Option.{is_none, is_some}
 use Rattle.query_tokens.specs.Token.{shown}
 use Rattle.query_values.specs.reading.Values.{name_of}
 use Rattle.sparql_parse.specs.computed.Names.{is_text}
-use Rattle.sparql_parse.specs.computed.Naming.{is_new_name}
+use Rattle.sparql_parse.specs.computed.Symbols.{is_new_name}
 use Rattle.sparql_parse.proofs.NameLaws.{is_some-position, not_back}
-use Rattle.sparql_parse.proofs.naming.is_new.Goals as goal
+use Rattle.sparql_parse.proofs.symbols.is_new.Goals as goal
 
 pub returns-in-Variable : goal.returns-in-Variable
 returns-in-Variable c =

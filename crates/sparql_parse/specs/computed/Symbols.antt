@@ -39,28 +39,28 @@ abbrev pub counts_with : ℕ → Tally → ℕ → Counts
 counts_with names t depth = record { names = names; objects = t.objects; optionals = t.optionals; depth = depth; groups = t.groups }
 
 -- names, declarations, and how many there are of what has a limit
-pub record Kept : Type 0 where
+pub record Symbols : Type 0 where
   pub names : List (List ℕ)
   pub declarations : Declarations
   pub tally : Tally
 
--- behind some tokens
-abbrev pub kept_of : List Labelled → Kept
-kept_of labelled = record { names = names_of labelled; declarations = declarations_of labelled; tally = tally_of labelled }
+-- after some tokens
+abbrev pub symbols_of : List Labelled → Symbols
+symbols_of labelled = record { names = names_of labelled; declarations = declarations_of labelled; tally = tally_of labelled }
 
--- behind one token more
-abbrev pub kept_after : Kept → Labelled → Kept
-kept_after k l = record {
+-- after one token more
+abbrev pub symbols_after : Symbols → Labelled → Symbols
+symbols_after k l = record {
   names = names_after k.names (terminal_of l.token) l.token;
   declarations = declarations_after k.declarations l.role l.token;
   tally = tally_after k.tally l.role;
 }
 
--- the fault of a token behind which so many groups are open
-unfoldable pub fault_after : Kept → ℕ → Labelled → Option QueryFault
+-- the fault of a token after which so many groups are open
+unfoldable pub fault_after : Symbols → ℕ → Labelled → Option QueryFault
 fault_after k depth l =
-    let behind = kept_after k l in
-    fault_among k.declarations.namespaces l (counts_with (length behind.names) behind.tally depth)
+    let after = symbols_after k l in
+    fault_among k.declarations.namespaces l (counts_with (length after.names) after.tally depth)
 
 -- the limits are kept
 pub record IsWithin (list : List (List ℕ)) (tally : Tally) : Type 0 where
