@@ -1,6 +1,5 @@
 ghost use Rattle.std.specs.Prelude.{◌≡◌, [], IfOk};
-ghost use Rattle.alg_model.specs.Pattern.{algebra_of};
-ghost use Rattle.pattern_tree.proofs.EmptyPatterns.{empty_chain};
+ghost use Rattle.alg_model.specs.Pattern.{Bgp, LeftJoin, algebra_of};
 
 use crate::tree_of;
 use alg_model::{PatList, Pattern};
@@ -10,7 +9,7 @@ use std::test::Fail;
 
 // {} OPTIONAL {{} OPTIONAL {}}
 fn chain(alloc: Global) -> Result<Pattern, AllocError>
-    ensures { IfOk result (λ pattern. algebra_of pattern ≡ empty_chain) }
+    ensures { IfOk result (λ pattern. algebra_of pattern ≡ LeftJoin (Bgp []) (LeftJoin (Bgp []) (Bgp []))) }
 {
     let first = Pattern::Bgp(PatList::new(alloc));
     let second = Pattern::Bgp(PatList::new(alloc));
@@ -21,7 +20,7 @@ fn chain(alloc: Global) -> Result<Pattern, AllocError>
 
 // The parents of the nodes, and how many variables and triple patterns they have together.
 fn shape_of(alloc: Global, pattern: &Pattern) -> Result<(Vec<Option<u8>>, u64, usize), AllocError>
-    requires { algebra_of pattern.now ≡ empty_chain }
+    requires { algebra_of pattern.now ≡ LeftJoin (Bgp []) (LeftJoin (Bgp []) (Bgp [])) }
 {
     let tree = tree_of(alloc, pattern)?;
     let mut parents = Vec::new(alloc);
