@@ -1,5 +1,5 @@
--- Well-designed patterns: Pérez, Arenas and Gutierrez, 'Semantics and Complexity of SPARQL', section 4.2. That the
--- first OPTIONAL that fails is told, with its least variable, is this project's.
+-- Well-designed patterns: Pérez, Arenas and Gutierrez. That the first OPTIONAL that fails is told, with its least
+-- variable, is this project's.
 use Rattle.std.specs.Prelude.{◌≡◌, ◌<◌, ◌≤◌, ◌+◌, ℕ, List, [], ◌∷◌, ◌++◌, All, Contains, slice_get, Some}
 use Rattle.alg_model.specs.Pattern.{Algebra, Bgp, Join, LeftJoin, vars_of}
 

@@ -1,11 +1,14 @@
 -- A line that is complained piece by piece.
-use Rattle.std.proofs.Common.{◌≡◌, ℕ, zero, suc, ◌+◌, ◌<◌, ◌≤◌, ◌++◌, List, [], ◌∷◌, Bor, length, take, drop, get_or, refl, arith, take-append-drop, drop-cons, sym, ◌∙◌, ap}
+use Rattle.std.proofs.Common.{◌≡◌, ℕ, zero, suc, ◌+◌, ◌<◌, ◌≤◌, ◌++◌, List, [], ◌∷◌, Bor, Option, Some, None, codes, decimal, append_assoc, length, take, drop, get_or, refl, arith, take-append-drop, drop-cons, sym, ◌∙◌, ap}
 use Rattle.std.proofs.lemmas.Grind.{common_steps, flat_map-append}
 use Rattle.std.proofs.lemmas.List.{take_more, append-nil}
 use Rattle.std.specs.List.{flat_map}
 use Rattle.bm_world.specs.Meanings.{Meanings, with_complained}
 use Rattle.bm_world.specs.World.{AppendsSome}
 use Rattle.bm_world.proofs.Appending.{AppendsUpTo}
+use Rattle.sparql_parse.specs.Causes.{cause_text, byte_of}
+use Rattle.sparql_parse.specs.declared.fault.QueryFault.{QueryFault}
+use Rattle.bm_top.specs.Lines.{at_byte, fault_line}
 
 -- stands for a piece past the last
 abbrev pub no_piece : Bor (List ℕ)
@@ -42,3 +45,22 @@ pub AppendsSome-wider : (piece later : List ℕ) (m n : Meanings) → AppendsSom
 AppendsSome-wider piece later m n (count, moved) =
     let front = front_of count piece later in
     (front.0, moved ∙ ap (with_complained m) (sym front.1))
+
+-- the pieces of the line of a fault that has a byte
+pub fault-pieces : (fault : QueryFault) (cause word number : List ℕ) (at : ℕ) → cause ++ word ≡ cause_text fault → Some at ≡ byte_of fault → number ≡ decimal at
+    → codes "query refused: " ++ (cause ++ (word ++ (codes " at byte " ++ (number ++ codes "\n")))) ≡ fault_line fault
+fault-pieces fault cause word number at words byte is =
+    ap (λ (text : List ℕ). codes "query refused: " ++ text)
+    (sym (append_assoc cause word (codes " at byte " ++ (number ++ codes "\n")))
+    ∙ ap (λ (front : List ℕ). front ++ (codes " at byte " ++ (number ++ codes "\n"))) words
+    ∙ ap (λ (digits : List ℕ). cause_text fault ++ (codes " at byte " ++ (digits ++ codes "\n"))) is
+    ∙ ap (λ (o : Option ℕ). cause_text fault ++ (at_byte o ++ codes "\n")) byte)
+
+-- and of one that has none
+pub fault-pieces_without : (fault : QueryFault) (cause word : List ℕ) → cause ++ word ≡ cause_text fault → None ≡ byte_of fault
+    → codes "query refused: " ++ (cause ++ (word ++ codes "\n")) ≡ fault_line fault
+fault-pieces_without fault cause word words byte =
+    ap (λ (text : List ℕ). codes "query refused: " ++ text)
+    (sym (append_assoc cause word (codes "\n"))
+    ∙ ap (λ (front : List ℕ). front ++ codes "\n") words
+    ∙ ap (λ (o : Option ℕ). cause_text fault ++ (at_byte o ++ codes "\n")) byte)

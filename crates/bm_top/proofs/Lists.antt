@@ -1,8 +1,9 @@
 -- Lists, of any items.
-use Rattle.std.proofs.Common.{◌≡◌, ℕ, ◌+◌, ◌++◌, ◌==◌, false, if◌then◌else◌, List, [], ◌∷◌, length, take, map, get_or, slice_get, Some, refl, arith, append_assoc, sym, ◌∙◌, ap}
+use Rattle.std.proofs.Common.{◌≡◌, ℕ, ◌+◌, ◌++◌, ◌==◌, false, if◌then◌else◌, List, [], ◌∷◌, length, take, map, get_or, slice_get, Option, Some, None, drop, refl, arith, append_assoc, sym, ◌∙◌, ap}
 use Rattle.std.proofs.lemmas.List.{take_more, map-append, length-map, length-take}
 use Rattle.std.proofs.lemmas.Grind.{common_steps}
 use Rattle.std.specs.List.{join_with_byte}
+use Rattle.std.specs.Option.{option_to_list}
 use Rattle.std.proofs.lemmas.Option.{slice_get_within, get_or_from_slice_get}
 
 -- a list that was changed item by item, with one more item
@@ -31,3 +32,15 @@ join-take_more c before f xs i x h =
     let far : length (map f (take i xs)) ≡ i = simp (length-map, length-take) (omega (arith, slice_get_within xs i x h)) in
     let joined = join-more c (map f (take i xs)) (f x) in
     rw (more, append_assoc) (ap (λ rest. before ++ rest) (sym (rw far at joined)))
+
+-- a list of no length is empty
+pub nothing_left : {X : Type 0} (xs : List X) → length xs ≡ 0 → xs ≡ []
+nothing_left [] h = refl
+nothing_left (x ∷ xs) h = absurd (omega arith)
+
+-- what is left of a list after its first item, if it has one
+pub drop-first : {X : Type 0} (first : Option X) (all rest : List X) → all ≡ option_to_list first ++ rest → (first ≡ None → length all ≡ 0) → rest ≡ drop 1 all
+drop-first (Some x) all rest is none = ap (drop 1) (sym is)
+drop-first None all rest is none =
+    let empty = nothing_left all (none refl) in
+    sym is ∙ empty ∙ ap (drop 1) (sym empty)

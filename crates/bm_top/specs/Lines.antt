@@ -1,8 +1,7 @@
 -- The lines that the program writes to standard error, and the limits that they name. They are this project's own.
-use Rattle.std.specs.Prelude.{ℕ, List, [], ◌++◌, codes, decimal}
-use Rattle.query_grammar.specs.Words.{word_text}
+use Rattle.std.specs.Prelude.{ℕ, List, [], ◌++◌, codes, decimal, Option, None, Some}
 use Rattle.sparql_parse.specs.declared.fault.QueryFault.{QueryFault}
-use Rattle.sparql_parse.specs.declared.fault.QueryFault.TheVariants as faults
+use Rattle.sparql_parse.specs.Causes.{cause_text, byte_of}
 use Rattle.bm_top.specs.declared.refusal.QueryRefusal.{QueryRefusal}
 use Rattle.bm_top.specs.declared.refusal.QueryRefusal.TheVariants.{Fault}
 use Rattle.bm_top.specs.declared.refusal.Refusal.{Refusal}
@@ -33,22 +32,14 @@ limit_line name limit = codes "limit: " ++ (name ++ (codes " is longer than " ++
 abbrev pub bad_line_line : ℕ → List ℕ
 bad_line_line line = codes "data refused: line " ++ (decimal line ++ codes "\n")
 
--- a cause, a word that belongs to it, and the byte at which it stands
-abbrev pub refused_at : List ℕ → List ℕ → ℕ → List ℕ
-refused_at cause word at =
-    codes "query refused: " ++ (cause ++ (word ++ (codes " at byte " ++ (decimal at ++ codes "\n"))))
+-- the byte at which a fault is, if it has one
+abbrev pub at_byte : Option ℕ → List ℕ
+at_byte None = []
+at_byte (Some at) = codes " at byte " ++ decimal at
 
--- the fault of a text; a text has none of memory
+-- the fault of a text: its words, and its byte; a text has none of memory
 abbrev pub fault_line : QueryFault → List ℕ
-fault_line (faults.Syntax at) = refused_at (codes "syntax") [] at
-fault_line (faults.Unsupported at word) = refused_at (codes "unsupported ") (word_text word) at
-fault_line (faults.UnknownPrefix at) = refused_at (codes "unknown prefix") [] at
-fault_line (faults.TooManyVariables at) = refused_at (codes "too many variables") [] at
-fault_line (faults.TooManyPatterns at) = refused_at (codes "too many patterns") [] at
-fault_line (faults.TooManyOptionals at) = refused_at (codes "too many optionals") [] at
-fault_line (faults.TooManyGroups at) = refused_at (codes "too many groups") [] at
-fault_line (faults.TooDeep at) = refused_at (codes "too deep") [] at
-fault_line faults.Memory = out_of_memory_line
+fault_line fault = codes "query refused: " ++ (cause_text fault ++ (at_byte (byte_of fault) ++ codes "\n"))
 
 abbrev pub query_line : QueryRefusal → List ℕ
 query_line (Fault fault) = fault_line fault

@@ -3,7 +3,7 @@ ghost use Rattle.std.specs.List.{flat_map};
 ghost use Rattle.bm_world.specs.Meanings.{with_complained};
 ghost use Rattle.bm_world.specs.World.{Step, RisesOnErr, AppendsAll};
 ghost use Rattle.bm_top.specs.steps.Ending.{line_of};
-ghost use Rattle.bm_top.specs.Lines.{fault_line, refusal_line, refused_at};
+ghost use Rattle.bm_top.specs.Lines.{fault_line, refusal_line};
 
 use crate::ending::Ending;
 use crate::refusal::{QueryRefusal, Refusal};
@@ -18,9 +18,11 @@ const WRITE_FAULT: &[u8] = b"write fault\n";
 
 const OUT_OF_MEMORY: &[u8] = b"out of memory\n";
 
+const REFUSED: &[u8] = b"query refused: ";
+
 const LINE_END: &[u8] = b"\n";
 
-/// Complains the line of an ending, in pieces that take no memory.
+/// Writes the line of an ending to standard error, in pieces that take no memory.
 pub(crate) fn complain_ending<W: World>(ending: &Ending<'_>, world: &mut W) -> Result<(), Failed>
     ensures step { Step (W.told world.old) (W.told world.new) (AppendsAll with_complained (line_of ending.now) result) }
     ensures cause { RisesOnErr (W.faults world.old).says (W.faults world.new).says result }
@@ -73,51 +75,36 @@ fn complain_refusal<W: World>(refusal: &Refusal<'_>, world: &mut W) -> Result<()
     }
 }
 
-// Complains what is wrong with a query, and where.
+/// Writes to standard error what is wrong with a query, and where.
 fn complain_fault<W: World>(fault: QueryFault, world: &mut W) -> Result<(), Failed>
     ensures step { Step (W.told world.old) (W.told world.new) (AppendsAll with_complained (fault_line fault) result) }
     ensures cause { RisesOnErr (W.faults world.old).says (W.faults world.new).says result }
     ensures reads_stay { (W.faults world.new).reads ≡ (W.faults world.old).reads }
     ensures writes_stay { (W.faults world.new).writes ≡ (W.faults world.old).writes }
 {
-    match fault {
-        QueryFault::Syntax { at } => complain_at(world, b"syntax", "", at),
-        QueryFault::Unsupported { at, word } => complain_at(
-            world,
-            b"unsupported ",
-            word.text(),
-            at,
-        ),
-        QueryFault::UnknownPrefix { at } => complain_at(world, b"unknown prefix", "", at),
-        QueryFault::TooManyVariables { at } => complain_at(world, b"too many variables", "", at),
-        QueryFault::TooManyPatterns { at } => complain_at(world, b"too many patterns", "", at),
-        QueryFault::TooManyOptionals { at } => complain_at(world, b"too many optionals", "", at),
-        QueryFault::TooManyGroups { at } => complain_at(world, b"too many groups", "", at),
-        QueryFault::TooDeep { at } => complain_at(world, b"too deep", "", at),
-        QueryFault::Memory => complain_all(world, OUT_OF_MEMORY),
+    let (cause, word) = fault.cause_words();
+    match fault.at() {
+        Some(at) => {
+            let mut number = Buffer::new();
+            complain_pieces(
+                world,
+                &[
+                    REFUSED,
+                    cause.as_bytes(),
+                    word.as_bytes(),
+                    b" at byte ",
+                    number.format(at).as_bytes(),
+                    LINE_END,
+                ],
+            )
+        }
+        None => {
+            complain_pieces(
+                world,
+                &[REFUSED, cause.as_bytes(), word.as_bytes(), LINE_END],
+            )
+        }
     }
-}
-
-// Complains a cause, a word that belongs to it, and the byte where it stands.
-fn complain_at<W: World>(world: &mut W, cause: &[u8], word: &str, at: usize) -> Result<(), Failed>
-    ensures step { Step (W.told world.old) (W.told world.new)
-        (AppendsAll with_complained (refused_at cause.now word.now at) result) }
-    ensures cause { RisesOnErr (W.faults world.old).says (W.faults world.new).says result }
-    ensures reads_stay { (W.faults world.new).reads ≡ (W.faults world.old).reads }
-    ensures writes_stay { (W.faults world.new).writes ≡ (W.faults world.old).writes }
-{
-    let mut number = Buffer::new();
-    complain_pieces(
-        world,
-        &[
-            b"query refused: ",
-            cause,
-            word.as_bytes(),
-            b" at byte ",
-            number.format(at).as_bytes(),
-            LINE_END,
-        ],
-    )
 }
 
 fn complain_pieces<W: World>(world: &mut W, pieces: &[&[u8]]) -> Result<(), Failed>

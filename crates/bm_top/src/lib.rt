@@ -3,6 +3,7 @@
 
 mod answer_row;
 mod answers;
+mod args;
 mod command;
 mod complain;
 mod data;
@@ -15,5 +16,6 @@ mod steps;
 mod top;
 mod tsv;
 
+pub use args::run_args;
 pub use laws::each_command_has_one_verdict;
 pub use top::run;

@@ -1,8 +1,10 @@
 pub mod Choices
 pub mod Distinct
+pub mod EmptyPatterns
 pub mod Evaluation
 pub mod Examples
 pub mod Growth
+pub mod NodeNumbers
 pub mod Nodes
 pub mod PatternTrees
 pub mod RootedSets

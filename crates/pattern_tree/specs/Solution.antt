@@ -1,5 +1,5 @@
--- Partial solutions of a pattern tree, and the maximal ones: Letelier, Pérez, Pichler and Skritek, section 3, where a
--- partial solution is that of a subtree with the root.
+-- Partial solutions of a pattern tree, and the maximal ones, after Letelier, Pérez, Pichler and Skritek: a partial
+-- solution is that of a part of the tree that has the root.
 use Rattle.std.specs.Prelude.{◌≡◌, ℕ, Bool, List, filter, is_some, length, All, Any}
 use Rattle.alg_model.specs.declared.pattern.TriplePat.{TriplePat}
 use Rattle.alg_model.specs.Row.{Row, Extends, BindsMore}

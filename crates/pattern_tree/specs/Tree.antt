@@ -1,5 +1,5 @@
--- The tree of a well-designed pattern: Letelier, Pérez, Pichler and Skritek, 'Static analysis and optimization of semantic
--- web queries', section 3. It is a list of its nodes in preorder; node k is the k-th OPTIONAL of the text.
+-- The tree of a well-designed pattern, after Letelier, Pérez, Pichler and Skritek. It is a list of its nodes in preorder:
+-- node k is the k-th OPTIONAL of the text.
 use Rattle.std.specs.Prelude.{◌≡◌, ℕ, zero, suc, ◌+◌, Bool, if◌then◌else◌, List, [], ◌∷◌, ◌++◌, map, length, Option, Some, None, IsTrue, slice_get}
 use Rattle.alg_model.specs.declared.pattern.TriplePat.{TriplePat}
 use Rattle.alg_model.specs.Pattern.{Algebra, Bgp, Join, LeftJoin}

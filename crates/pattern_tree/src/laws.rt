@@ -1,11 +1,11 @@
 // The laws of pattern trees. Each call does nothing: its contract is the law.
-ghost use Rattle.std.specs.Prelude.{◌≢◌, ◌↔◌, ◌⊎◌, ℕ, List, All, AllPairs, Contains};
+ghost use Rattle.std.specs.Prelude.{◌≡◌, ◌≢◌, ◌↔◌, ◌⊎◌, ◌∷◌, ℕ, List, map, length, All, AllPairs, Contains};
 ghost use Rattle.alg_model.specs.declared.pattern.TriplePat.{TriplePat};
 ghost use Rattle.alg_model.specs.Row.{Row, Extends};
-ghost use Rattle.alg_model.specs.Pattern.{Algebra, Bgp, Join, LeftJoin, HasVarsBelow, vars_of};
+ghost use Rattle.alg_model.specs.Pattern.{Algebra, Bgp, Join, LeftJoin, HasVarsBelow, optional_parts, vars_of};
 ghost use Rattle.alg_model.specs.Eval.{Interpretation, eval};
 ghost use Rattle.alg_model.specs.Solution.{IsSolution, TellsValues, TellsTriples};
-ghost use Rattle.alg_model.specs.WellDesigned.{optionals_beside, IsFine, IsWellDesigned};
+ghost use Rattle.alg_model.specs.WellDesigned.{optionals_beside, optionals_of, IsFine, IsWellDesigned};
 ghost use Rattle.pattern_tree.specs.Parts.{IsMergeOf, IsAlone};
 ghost use Rattle.pattern_tree.specs.Solution.{Family, all_matches, IsPartialRow, IsMaximalRow};
 ghost use Rattle.pattern_tree.specs.Tree.{root_patterns, tree_of};
@@ -59,4 +59,11 @@ pub fn pattern_tree_law<V, X>()
         HasVarsBelow n pattern → IsWellDesigned pattern →
         (row : Row V) → IsPartialRow interpretation n (tree_of pattern) (all_matches interpretation n triples) row →
         (whole : Row V) × IsMaximalRow interpretation n (tree_of pattern) (all_matches interpretation n triples) whole × Extends whole row }
+{}
+
+/// Node 0 of a tree is the root, and node k is the k-th OPTIONAL of the text: it has the triple patterns of the root of
+/// its right side. There are as many as the pattern has optional parts.
+pub fn node_number_law()
+    ensures nodes { (pattern : Algebra) → map (λ node. node.patterns) (tree_of pattern) ≡ root_patterns pattern ∷ map (λ part. root_patterns part.right) (optionals_of pattern) }
+    ensures optionals { (pattern : Algebra) → length (optionals_of pattern) ≡ optional_parts pattern }
 {}

@@ -4,8 +4,13 @@
 
 mod laws;
 mod node;
+#[cfg(test)]
+mod tests;
 mod tree;
 
-pub use laws::{maximal_solution_law, partial_solution_law, pattern_tree_law, shared_variable_law};
+pub use laws::{
+    maximal_solution_law, node_number_law, partial_solution_law, pattern_tree_law,
+    shared_variable_law,
+};
 pub use node::PatRefs;
 pub use tree::{Tree, tree_of};
