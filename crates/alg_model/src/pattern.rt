@@ -1,7 +1,7 @@
 ghost use Rattle.std.specs.Prelude.{◌≡◌, ◌<◌, ◌==◌, [], ◌∷◌, ◌++◌, All, length, slice_get, IfOk, OnOk, OnErr, Some};
 
-use crate::var_set::{list_vars, place_vars};
 use crate::Var;
+use crate::var_set::{list_vars, place_vars};
 use bm_term::Term;
 use std::alloc::{AllocError, Global};
 use std::marker::Model;

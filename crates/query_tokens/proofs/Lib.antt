@@ -7,6 +7,7 @@ pub mod Reached
 pub mod NumberTexts
 pub mod PrefixTexts
 pub mod TokenTexts
+pub mod TokenFronts
 pub mod TokenReaches
 pub mod PrefixBounds
 pub mod TokenLists

@@ -23,7 +23,8 @@ use Rattle.query_tokens.specs.scanning.Tokens.{scan_token, scan_or_bad}
 use Rattle.query_tokens.proofs.Walks.{goes_on}
 use Rattle.query_tokens.proofs.PrefixTexts.{no_colon, after_prefix-again, after_prefix-sound}
 use Rattle.query_tokens.proofs.TokenTexts.{scan_token-takes}
-use Rattle.query_tokens.proofs.TokenReaches.{scan_token-name, letter_is_base}
+use Rattle.query_tokens.proofs.TokenFronts.{scan_token-name}
+use Rattle.query_tokens.proofs.TokenReaches.{letter_is_base}
 
 -- in the whole text none begins where more bytes are left than it has
 pub none_at_first : (text : List ℕ) → IsUtf8 text → HasNoPrefixBefore (length text) (chars text)

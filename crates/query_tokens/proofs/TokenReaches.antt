@@ -1,11 +1,9 @@
 -- No less is read than a token that is in front has.
-use Rattle.std.proofs.Common.{◌≡◌, ℕ, true, false, ◌==◌, ◌⊎◌, inl, inr, Some, None, List, [], ◌∷◌, ◌++◌, length, refl, ap, ◌∙◌, sym, subst, arith, append_assoc, length-append}
+use Rattle.std.proofs.Common.{◌≡◌, ℕ, true, ◌⊎◌, inl, inr, Some, None, List, [], ◌∷◌, ◌++◌, length, refl, ap, ◌∙◌, sym, subst, arith, append_assoc, length-append}
 use Rattle.std.specs.List.{list_all}
 use Rattle.std.specs.Option.{option_map_or}
 use Rattle.std.proofs.lemmas.Bool.{eqb-true, eq-eqb, and_parts, or_cases}
-use Rattle.std.proofs.lemmas.Bool.Decides.{nat_tests}
 use Rattle.rdf_text.specs.Classes.{is_letter, is_alphanumeric, is_digit, is_pn_chars_base, is_sparql_label_first, is_sparql_pn_chars}
-use Rattle.rdf_text.specs.scanning.Names.{after_language_tag}
 use Rattle.rdf_text.specs.scanning.Text.{after_char, after_run}
 use Rattle.rdf_text.specs.Text.{IsRun}
 use Rattle.rdf_text.specs.Repetition.{Star}
@@ -19,7 +17,6 @@ use Rattle.query_tokens.specs.Numbers.{is_number_sign, IsSigned, IsDigits, IsFra
 use Rattle.rdf_text.specs.Text.{IsOf}
 use Rattle.rdf_text.specs.Names.{IsLangtag, IsBlankNodeLabel}
 use Rattle.rdf_escapes.specs.Iris.{IsIriRef}
-use Rattle.query_tokens.specs.scanning.Iris.{after_iri}
 use Rattle.query_tokens.specs.PrefixedNames.{IsPrefix, IsPrefixed}
 use Rattle.query_tokens.specs.scanning.PrefixedNames.{scan_local, scan_name}
 use Rattle.query_tokens.specs.Variables.{is_variable_inner, IsVariable}
@@ -30,102 +27,14 @@ use Rattle.query_tokens.specs.scanning.Numbers.{scan_fraction, scan_number}
 use Rattle.query_tokens.specs.Signs.{is_sign, IsSign}
 use Rattle.query_tokens.specs.Token.{IsToken}
 use Rattle.query_tokens.specs.scanning.ScannedToken.{ScannedToken}
-use Rattle.query_tokens.specs.scanning.Tokens.{as_kind, or_sign, after_two_more, scan_quoted, after_blank_label, after_circumflex, scan_sign, scan_marked, scan_token}
+use Rattle.query_tokens.specs.scanning.Tokens.{as_kind, or_sign, after_two_more, scan_quoted, after_blank_label, scan_sign, scan_marked, scan_token}
 use Rattle.query_tokens.proofs.Reached.{Reached, reached_as, reached_past}
 use Rattle.query_tokens.proofs.Iris.{after_iri-again}
 use Rattle.query_tokens.proofs.QuotedStrings.{after_string-again, body_begins}
 use Rattle.query_tokens.proofs.NumberTexts.{IsUnsigned, scan_number-takes, scan_number-reaches, length-unsigned, scan_fraction-shorter}
 use Rattle.query_tokens.proofs.PrefixTexts.{prefix-reaches, prefixed-reaches, scan_name-prefix, word-reaches}
 use Rattle.query_tokens.proofs.TokenTexts.{name-sound, name-again}
-
--- a letter begins a name
-pub scan_token-name : (c : ℕ) (cs : List ℕ) → is_pn_chars_base c ≡ true → scan_token (c ∷ cs) ≡ scan_name (c ∷ cs)
-unfolding scan_token
-scan_token-name c cs is = rw is refl
-
--- a digit begins no name
-no_base_digit : (c : ℕ) → is_digit c ≡ true → is_pn_chars_base c ≡ false
-unfolding is_digit is_pn_chars_base
-no_base_digit c is = grind (arith, nat_tests)
-
--- a digit begins a number
-scan_token-digit : (c : ℕ) (cs : List ℕ) → is_digit c ≡ true → scan_token (c ∷ cs) ≡ scan_number (c ∷ cs)
-unfolding scan_token
-scan_token-digit c cs is = rw (no_base_digit c is, is) refl
-
--- a character that is neither of names nor a digit
-abbrev pub IsMark : ℕ → Type 0
-IsMark c = (is_pn_chars_base c ≡ false) × (is_digit c ≡ false)
-
--- a mark begins neither
-scan_token-mark : (c : ℕ) (cs : List ℕ) → IsMark c → scan_token (c ∷ cs) ≡ scan_marked c cs
-unfolding scan_token
-scan_token-mark c cs (no_name, no_digit) = rw (no_name, no_digit) refl
-
--- a mark of strings is such a mark
-marks : (c : ℕ) → is_quote c ≡ true → IsMark c
-unfolding is_digit is_pn_chars_base
-marks c quote = elim (or_cases _ _ quote) [
-  | inl e ↦ subst IsMark (sym (eqb-true c 34 e)) (refl, refl)
-  | inr e ↦ subst IsMark (sym (eqb-true c 39 e)) (refl, refl)
-]
-
--- '<' begins an IRI
-scan_token-less_than : (cs : List ℕ) → scan_token (60 ∷ cs) ≡ as_kind Iri (after_iri cs)
-unfolding scan_token scan_marked is_digit is_pn_chars_base
-scan_token-less_than cs = refl
-
--- a mark of strings begins a string
-scan_token-quote : (mark : ℕ) (cs : List ℕ) → is_quote mark ≡ true → scan_token (mark ∷ cs) ≡ scan_quoted mark cs
-unfolding scan_marked
-scan_token-quote mark cs quote =
-    let no_bracket : (mark == 60) ≡ false = grind (arith, nat_tests) in
-    rw (scan_token-mark mark cs (marks mark quote), no_bracket, quote) refl
-
--- '@' begins a tag
-scan_token-at_sign : (cs : List ℕ) → scan_token (64 ∷ cs) ≡ as_kind Tag (after_language_tag is_letter is_alphanumeric cs)
-unfolding scan_token scan_marked is_digit is_pn_chars_base
-scan_token-at_sign cs = refl
-
--- '_' begins a label
-scan_token-low_line : (cs : List ℕ) → scan_token (95 ∷ cs) ≡ as_kind Blank (after_blank_label cs)
-unfolding scan_token scan_marked is_digit is_pn_chars_base
-scan_token-low_line cs = refl
-
--- ':' is a prefix
-scan_token-colon : (cs : List ℕ) → scan_token (58 ∷ cs) ≡ Some (scan_local cs)
-unfolding scan_token scan_marked is_digit is_pn_chars_base
-scan_token-colon cs = refl
-
--- '?' begins a variable or is a sign
-scan_token-question : (cs : List ℕ) → scan_token (63 ∷ cs) ≡ or_sign (as_kind Variable (after_variable_name cs)) cs
-unfolding scan_token scan_marked scan_sign is_digit is_pn_chars_base
-scan_token-question cs = refl
-
--- '$' begins a variable
-scan_token-dollar : (cs : List ℕ) → scan_token (36 ∷ cs) ≡ as_kind Variable (after_variable_name cs)
-unfolding scan_token scan_marked scan_sign is_digit is_pn_chars_base
-scan_token-dollar cs = refl
-
--- '+' begins a number or is a sign
-scan_token-plus : (cs : List ℕ) → scan_token (43 ∷ cs) ≡ or_sign (scan_number cs) cs
-unfolding scan_token scan_marked scan_sign is_digit is_pn_chars_base
-scan_token-plus cs = refl
-
--- '-' begins a number
-scan_token-hyphen : (cs : List ℕ) → scan_token (45 ∷ cs) ≡ scan_number cs
-unfolding scan_token scan_marked scan_sign is_digit is_pn_chars_base
-scan_token-hyphen cs = refl
-
--- '.' begins a number or is a sign
-scan_token-stop : (cs : List ℕ) → scan_token (46 ∷ cs) ≡ or_sign (scan_fraction cs) cs
-unfolding scan_token scan_marked scan_sign is_digit is_pn_chars_base
-scan_token-stop cs = refl
-
--- '^' begins a sign
-scan_token-circumflex : (cs : List ℕ) → scan_token (94 ∷ cs) ≡ Some (Sign, after_circumflex cs)
-unfolding scan_token scan_marked scan_sign is_digit is_pn_chars_base
-scan_token-circumflex cs = refl
+use Rattle.query_tokens.proofs.TokenFronts.{scan_token-name, scan_token-digit, scan_token-less_than, scan_token-quote, scan_token-at_sign, scan_token-low_line, scan_token-colon, scan_token-question, scan_token-dollar, scan_token-plus, scan_token-hyphen, scan_token-stop, scan_token-circumflex}
 
 -- IRIs, prefixes and names
 iri-reaches : (front more : List ℕ) → IsOf IsIriRef front → Reached (scan_token (front ++ more)) Iri more

@@ -31,6 +31,7 @@ use Rattle.query_values.specs.Variables.{SpellsVariable}
 pub SpellsIri-is : (token : Lexeme) (iri : List ℕ) → SpellsIri token iri → iri_of token ≡ iri
 SpellsIri-is token iri s = iri_of-spells token iri s.spelled
 
+-- a token that is an IRI spells what is read of it
 pub iri_of-spelled : (token : Lexeme) → IsSpelled token → token.kind ≡ kinds.Iri → SpellsIri token (iri_of token)
 iri_of-spelled token spelled kind =
     let (iri, is) = subst (λ (k : TokenKind). IsToken k (chars token.text)) kind spelled.rule in
@@ -40,6 +41,7 @@ iri_of-spelled token spelled kind =
 pub SpellsPrefix-is : (token : Lexeme) (prefix : List ℕ) → SpellsPrefix token prefix → prefix_of token ≡ prefix
 SpellsPrefix-is token prefix s = prefix_of-spells token prefix [] s.label s.spelled
 
+-- so does one that is a prefix
 pub prefix_of-spelled : (token : Lexeme) → IsSpelled token → token.kind ≡ kinds.Prefix → SpellsPrefix token (prefix_of token)
 prefix_of-spelled token spelled kind =
     let (name, label, text) = subst (λ (k : TokenKind). IsToken k (chars token.text)) kind spelled.rule in
@@ -61,15 +63,19 @@ prefixed-parts token kind (front, local, (name, label, front_is), (pieces, spell
       spelled = text ∙ ap (λ xs. xs ++ colon ∷ local) (sym same);
     }
 
+-- so does one that is a prefixed name
 pub prefixed-spelled : (token : Lexeme) → IsSpelled token → token.kind ≡ kinds.Prefixed → SpellsPrefixed token (prefix_of token) (local_of token)
 prefixed-spelled token spelled kind = prefixed-parts token kind (subst (λ (k : TokenKind). IsToken k (chars token.text)) kind spelled.rule)
 
+-- the prefix of a prefixed name is what is read of it
 pub SpellsPrefixed-prefix : (token : Lexeme) (prefix local : List ℕ) → SpellsPrefixed token prefix local → prefix_of token ≡ prefix
 SpellsPrefixed-prefix token prefix local s = prefix_of-spells token prefix s.text s.label s.spelled
 
+-- so is its local part
 pub SpellsPrefixed-local : (token : Lexeme) (prefix local : List ℕ) → SpellsPrefixed token prefix local → local_of token ≡ local
 SpellsPrefixed-local token prefix local s = local_of-spells token prefix s.text s.pieces s.label s.local_text s.spelled ∙ sym s.local_is
 
+-- so is the prefix where the local part may be empty
 pub SpellsPrefixedName-prefix : (token : Lexeme) (prefix local : List ℕ) → SpellsPrefixedName token prefix local → prefix_of token ≡ prefix
 SpellsPrefixedName-prefix token prefix local (inl s) = SpellsPrefixed-prefix token prefix local s
 SpellsPrefixedName-prefix token prefix local (inr (s, empty)) = SpellsPrefix-is token prefix s
@@ -79,6 +85,7 @@ pub SpellsVariable-is : (token : Lexeme) (name : List ℕ) → SpellsVariable to
 unfolding name_of
 SpellsVariable-is token name s = rw s.spelled refl
 
+-- a token that is a variable spells the name that is read of it
 pub name_of-spelled : (token : Lexeme) → IsSpelled token → token.kind ≡ kinds.Variable → SpellsVariable token (name_of token)
 name_of-spelled token spelled kind =
     let (mark, name, is_mark, is_name, text) = subst (λ (k : TokenKind). IsToken k (chars token.text)) kind spelled.rule in
@@ -98,6 +105,7 @@ name_of-spelled token spelled kind =
 pub SpellsLexical-is : (token : Lexeme) (lexical : List ℕ) → SpellsLexical token lexical → lexical_of token ≡ lexical
 SpellsLexical-is token lexical s = lexical_of-spells token s.spelled.mark lexical s.spelled.quote s.spelled.string
 
+-- a token that is a string spells what is read of it
 pub lexical_of-spelled : (token : Lexeme) → IsSpelled token → token.kind ≡ kinds.Quoted → SpellsLexical token (lexical_of token)
 lexical_of-spelled token spelled kind =
     let (lexical, is) = subst (λ (k : TokenKind). IsToken k (chars token.text)) kind spelled.rule in
@@ -108,6 +116,7 @@ lexical_of-spelled token spelled kind =
 pub SpellsTag-is : (token : Lexeme) (tag : List ℕ) → SpellsTag token tag → tag_of token ≡ tag
 SpellsTag-is token tag s = tag_of-spells token s.written s.spelled ∙ sym s.lower
 
+-- a token that is a tag spells what is read of it
 pub tag_of-spelled : (token : Lexeme) → IsSpelled token → token.kind ≡ kinds.Tag → SpellsTag token (tag_of token)
 tag_of-spelled token spelled kind =
     let (written, is) = subst (λ (k : TokenKind). IsToken k (chars token.text)) kind spelled.rule in
@@ -121,6 +130,7 @@ IsNumberType-is kinds.Decimal datatype is = is
 IsNumberType-is kinds.Double datatype is = is
 IsNumberType-is _ datatype is = absurd is
 
+-- a number is the literal that is read of it
 pub SpellsNumber-is : (token : Lexeme) (literal : RdfTerm) → SpellsNumber token literal → literal ≡ number_literal token
 SpellsNumber-is token literal s = s.literal_is ∙ ap (typed (chars token.text)) (IsNumberType-is token.kind s.datatype s.kind)
 
@@ -128,12 +138,14 @@ SpellsNumber-is token literal s = s.literal_is ∙ ap (typed (chars token.text))
 abbrev pub IsNumberKind : TokenKind → Type 0
 IsNumberKind kind = (kind ≡ kinds.Integer) ⊎ ((kind ≡ kinds.Decimal) ⊎ (kind ≡ kinds.Double))
 
+-- the datatype of a kind of numbers
 number_type-is : (kind : TokenKind) → IsNumberKind kind → IsNumberType kind (number_type kind)
 unfolding number_type
 number_type-is kind (inl e) = subst (λ (k : TokenKind). IsNumberType k (number_type k)) (sym e) refl
 number_type-is kind (inr (inl e)) = subst (λ (k : TokenKind). IsNumberType k (number_type k)) (sym e) refl
 number_type-is kind (inr (inr e)) = subst (λ (k : TokenKind). IsNumberType k (number_type k)) (sym e) refl
 
+-- a token that is a number spells the literal that is read of it
 pub number-spelled : (token : Lexeme) → IsNumberKind token.kind → SpellsNumber token (number_literal token)
 number-spelled token kind = record { datatype = number_type token.kind; kind = number_type-is token.kind kind; literal_is = refl }
 
@@ -141,9 +153,11 @@ number-spelled token kind = record { datatype = number_type token.kind; kind = n
 pub SpellsBoolean-is : (token : Lexeme) (literal : RdfTerm) → SpellsBoolean token literal → literal ≡ boolean_literal token
 SpellsBoolean-is token literal s = s.literal_is ∙ ap (λ w. typed w xsd_boolean) (sym s.spelled)
 
+-- a character whose lower case is ASCII is ASCII
 lower-ascii : (c : ℕ) → nat_lt (to_ascii_lowercase c) 128 ≡ true → nat_lt c 128 ≡ true
 lower-ascii c e = grind (arith, nat_tests)
 
+-- and so is a text
 lowers-ascii : (text : List ℕ) → list_all (λ b. nat_lt b 128) (map to_ascii_lowercase text) ≡ true → list_all (λ b. nat_lt b 128) text ≡ true
 lowers-ascii [] all = refl
 lowers-ascii (c ∷ text) all =
@@ -157,9 +171,11 @@ word-lower text word ascii e =
     let all : list_all (λ b. nat_lt b 128) text ≡ true = lowers-ascii text (ap (list_all (λ b. nat_lt b 128)) same ∙ ascii) in
     ap (map to_ascii_lowercase) (ascii_chars text all) ∙ same
 
+-- the text is `true` or `false`, without case
 abbrev pub IsBooleanText : List ℕ → Type 0
 IsBooleanText text = (str_eq_ignore_ascii_case text (codes "true") ≡ true) ⊎ (str_eq_ignore_ascii_case text (codes "false") ≡ true)
 
+-- such a word spells the literal that is read of it
 pub boolean-spelled : (token : Lexeme) → token.kind ≡ kinds.Word → IsBooleanText token.text → SpellsBoolean token (boolean_literal token)
 boolean-spelled token kind (inl e) =
     let same : map to_ascii_lowercase (chars token.text) ≡ codes "true" = word-lower token.text (codes "true") refl e in

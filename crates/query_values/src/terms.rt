@@ -1,4 +1,4 @@
-// What tokens stand for: terms.
+//! What tokens stand for: terms.
 ghost use Rattle.std.specs.Prelude.{◌≡◌, ◌≢◌, ◌++◌, IfOk, OnOk, codes, string_bytes};
 ghost use Rattle.std.specs.Str.{chars, encode_utf8_all};
 ghost use Rattle.bm_term.specs.Canonical.{iri as iri_with, typed, xsd_string, canonical_text};
@@ -101,7 +101,7 @@ pub fn boolean_term(alloc: Global, token: Token<'_>) -> Result<Term, AllocError>
     literal_term(alloc, lexical.as_str(), XSD_BOOLEAN)
 }
 
-// The IRI of a number's datatype.
+/// The IRI of a number's datatype.
 #[tactic(auto, unfolding(crate::specs::reading::Values::number_type))]
 fn number_type(kind: TokenKind) -> &'static str
     ensures { result.now ≡ number_type kind }
@@ -113,7 +113,7 @@ fn number_type(kind: TokenKind) -> &'static str
     }
 }
 
-// The literal of a lexical form and a datatype that is not xsd:string.
+/// The literal of a lexical form and a datatype that is not xsd:string.
 fn literal_term(alloc: Global, lexical: &str, datatype: &str) -> Result<Term, AllocError>
     requires characters { AreIriChars (chars datatype.now) }
     requires other { chars datatype.now ≢ xsd_string }
@@ -127,7 +127,7 @@ fn literal_term(alloc: Global, lexical: &str, datatype: &str) -> Result<Term, Al
     Ok(Term::from_canonical(text.into_bytes()))
 }
 
-// Writes an IRI in brackets.
+/// Writes an IRI in brackets.
 fn push_iri(out: &mut String, iri: &str) -> Result<(), AllocError>
     ensures { OnOk result (string_bytes out.new ≡ string_bytes out.old ++ canonical_text (iri_with (chars iri.now))) }
 {
@@ -136,7 +136,7 @@ fn push_iri(out: &mut String, iri: &str) -> Result<(), AllocError>
     out.push('>')
 }
 
-// Writes a datatype, with the mark before it.
+/// Writes a datatype, with the mark before it.
 fn push_datatype(out: &mut String, datatype: &str) -> Result<(), AllocError>
     ensures { OnOk result (string_bytes out.new ≡ string_bytes out.old ++ codes "^^" ++ canonical_text (iri_with (chars datatype.now))) }
 {
@@ -144,7 +144,7 @@ fn push_datatype(out: &mut String, datatype: &str) -> Result<(), AllocError>
     push_iri(out, datatype)
 }
 
-// Writes the lexical form of a string between quotation marks.
+/// Writes the lexical form of a string between quotation marks.
 #[tactic(auto, unfolding(crate::specs::reading::Values::lexical_of))]
 fn push_quoted(out: &mut String, string: Token<'_>) -> Result<(), AllocError>
     requires { IsSpelled (shown string) }
@@ -164,7 +164,7 @@ fn push_between_marks(out: &mut String, text: &str) -> Result<(), AllocError>
     }
 }
 
-// Writes the characters of a text, each in its one spelling in a literal.
+/// Writes the characters of a text, each in its one spelling in a literal.
 fn push_escaped(out: &mut String, text: &str) -> Result<(), AllocError>
     ensures { OnOk result (string_bytes out.new ≡ string_bytes out.old ++ encode_utf8_all (escaped (chars text.now))) }
 {

@@ -8,7 +8,7 @@ use query_tokens::{Token, TokenKind, tokens};
 use std::alloc::Global;
 use std::test::Fail;
 
-// The first token of a text.
+/// The first token of a text.
 fn first_token<'a>(alloc: Global, text: &'a str) -> Result<Token<'a>, Fail>
     ensures { IfOk result (λ token. IsSpelled (shown token)) }
 {
@@ -24,7 +24,7 @@ fn first_token<'a>(alloc: Global, text: &'a str) -> Result<Token<'a>, Fail>
     }
 }
 
-// The text of a term.
+/// The text of a term.
 fn text_is(term: &Term, expected: &str) -> bool {
     term.as_ref().bytes() == expected.as_bytes()
 }
@@ -116,7 +116,7 @@ fn words(rt: HostRuntime) -> Result<(), Fail> {
     Ok(())
 }
 
-// The literal of a string and the tag or the datatype after it.
+/// The literal of a string and the tag or the datatype after it.
 fn literal(alloc: Global, string: &str, tail: &str) -> Result<Term, Fail> {
     let string = first_token(alloc, string)?;
     let tail = first_token(alloc, tail)?;

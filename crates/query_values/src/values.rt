@@ -1,4 +1,4 @@
-// What tokens stand for: the characters of IRIs and names.
+//! What tokens stand for: the characters of IRIs and names.
 ghost use Rattle.std.specs.Prelude.{◌≡◌, [], ◌∷◌, ◌++◌, IfOk, OnOk, string_bytes};
 ghost use Rattle.std.specs.List.{filter};
 ghost use Rattle.std.specs.Str.{chars, encode_utf8_all};
@@ -11,7 +11,7 @@ use rdf_escapes::push_iri_pieces;
 use rdf_text::{CharClass, after_run, before, split_char};
 use std::alloc::{AllocError, Global};
 
-// Every character but the colon.
+/// Every character but the colon.
 #[derive(Clone, Copy)]
 struct NoColon;
 
@@ -87,7 +87,7 @@ pub fn prefixed_iri(alloc: Global, namespace: &str, token: Token<'_>) -> Result<
     Ok(iri)
 }
 
-// Writes the characters of a text that are no backslash.
+/// Writes the characters of a text that are no backslash.
 fn push_without_backslashes(out: &mut String, text: &str) -> Result<(), AllocError>
     ensures { OnOk result (string_bytes out.new ≡ string_bytes out.old ++ encode_utf8_all (filter is_no_backslash (chars text.now))) }
 {

@@ -23,14 +23,17 @@ pub record IsProper (l : Labelled) : Type 0 where
   pub label : l.role ≡ roles.Declared → l.token.kind ≡ kinds.Prefix
   pub iri : l.role ≡ roles.Namespace → l.token.kind ≡ kinds.Iri
 
+-- each of some tokens is so
 abbrev pub AreProper : List Labelled → Type 0
 AreProper [] = Unit {0}
 AreProper (l ∷ ls) = IsProper l × AreProper ls
 
+-- a front of such tokens
 pub AreProper-front : (front back : List Labelled) → AreProper (front ++ back) → AreProper front
 AreProper-front [] back all = tt
 AreProper-front (l ∷ front) back (first, rest) = (first, AreProper-front front back rest)
 
+-- a back of such tokens
 pub AreProper-back : (front back : List Labelled) → AreProper (front ++ back) → AreProper back
 AreProper-back [] back all = all
 AreProper-back (l ∷ front) back (first, rest) = AreProper-back front back rest
@@ -45,6 +48,7 @@ abbrev added : Option (List ℕ) → Lexeme → List Namespace
 added None token = []
 added (Some prefix) token = namespace_with prefix (iri_of token) ∷ []
 
+-- the declaration that a token completes, after this prefix
 abbrev entry : Option (List ℕ) → Role → Lexeme → List Namespace
 entry prefix roles.Namespace token = added prefix token
 entry prefix _ token = []
@@ -54,22 +58,27 @@ abbrev declared_from : Option (List ℕ) → List Labelled → List Namespace
 declared_from prefix [] = []
 declared_from prefix (l ∷ ls) = entry prefix l.role l.token ++ declared_from (label_of l.role l.token) ls
 
+-- what the IRI of a declaration adds comes at the end
 with_namespace-added : (ns : List Namespace) (prefix : Option (List ℕ)) (token : Lexeme) → with_namespace ns prefix (iri_of token) ≡ ns ++ added prefix token
 with_namespace-added ns None token = sym (append-nil ns)
 with_namespace-added ns (Some prefix) token = refl
 
+-- the declarations after one token more
 after-namespaces : (d : Declarations) (role : Role) (token : Lexeme) → (declarations_after d role token).namespaces ≡ d.namespaces ++ entry d.prefix role token
 after-namespaces d roles.Namespace token = with_namespace-added d.namespaces d.prefix token
 after-namespaces d _ token = sym (append-nil d.namespaces)
 
+-- the prefix that is read last, after one token more
 after-prefix : (d : Declarations) (role : Role) (token : Lexeme) → (declarations_after d role token).prefix ≡ label_of role token
 after-prefix d roles.Declared token = refl
 after-prefix d roles.Namespace token = refl
 after-prefix d _ token = refl
 
+-- what is declared after some tokens more
 abbrev after_all : Declarations → List Labelled → Declarations
 after_all d ls = fold (λ e (l : Labelled). declarations_after e l.role l.token) d ls
 
+-- the declarations after some tokens more are those from the front on
 after_all-namespaces : (ls : List Labelled) (d : Declarations) → (after_all d ls).namespaces ≡ d.namespaces ++ declared_from d.prefix ls
 after_all-namespaces [] d = sym (append-nil d.namespaces)
 after_all-namespaces (l ∷ ls) d =
@@ -80,6 +89,7 @@ after_all-namespaces (l ∷ ls) d =
     ∙ ap (λ p. (d.namespaces ++ entry d.prefix l.role l.token) ++ declared_from p ls) (after-prefix d l.role l.token)
     ∙ append_assoc d.namespaces (entry d.prefix l.role l.token) rest
 
+-- the declarations among tokens, from the front on
 namespaces_of-from : (ls : List Labelled) → namespaces_of ls ≡ declared_from None ls
 unfolding declarations_of
 namespaces_of-from ls = after_all-namespaces ls no_declarations
@@ -89,20 +99,24 @@ map-or : (a b : Option Namespace) → option_map (λ n. n.iri) (option_or a b) �
 map-or None b = refl
 map-or (Some n) b = refl
 
+-- the last declaration of a prefix is in the second part, or else in the first
 found-append : (xs ys : List Namespace) (prefix : List ℕ) → namespace_of (xs ++ ys) prefix ≡ option_or (namespace_of ys prefix) (namespace_of xs prefix)
 found-append xs ys prefix =
     ap (λ ns. option_map (λ n. n.iri) (find (λ n. is_text prefix n.prefix) ns)) (reverse-append xs ys)
     ∙ ap (option_map (λ n. n.iri)) (find-append (λ n. is_text prefix n.prefix) (reverse ys) (reverse xs))
     ∙ map-or (find (λ n. is_text prefix n.prefix) (reverse ys)) (find (λ n. is_text prefix n.prefix) (reverse xs))
 
+-- a declaration alone is found by its prefix
 found-one : (prefix iri : List ℕ) → namespace_of (namespace_with prefix iri ∷ []) prefix ≡ Some iri
 found-one prefix iri =
     ap (λ b. option_map (λ (n : Namespace). n.iri) (cond b (Some (namespace_with prefix iri)) None)) ((bytes_eq-Decides prefix prefix).1 refl)
 
+-- of two there is one where there is the second
 is_some-or : (a b : Option (List ℕ)) → is_some b ≡ true → is_some (option_or a b) ≡ true
 is_some-or None b e = e
 is_some-or (Some x) b e = refl
 
+-- and where there is the first
 is_some-or-first : (a b : Option (List ℕ)) → is_some a ≡ true → is_some (option_or a b) ≡ true
 is_some-or-first None b e = absurd (cc)
 is_some-or-first (Some x) b e = refl
@@ -120,10 +134,12 @@ declared-found (l ∷ before) after p label value prefix is =
     ap is_some (found-append (entry p l.role l.token) rest prefix)
     ∙ is_some-or-first (namespace_of rest prefix) (namespace_of (entry p l.role l.token) prefix) (declared-found before after (label_of l.role l.token) label value prefix is)
 
+-- a prefix that is declared is found, whatever prefix comes before
 IsDeclared-found : (ls : List Labelled) (p : Option (List ℕ)) (prefix : List ℕ) → IsDeclared ls prefix → is_some (namespace_of (declared_from p ls) prefix) ≡ true
 IsDeclared-found ls p prefix (iri, d) =
     subst (λ xs. is_some (namespace_of (declared_from p xs) prefix) ≡ true) (sym d.split) (declared-found d.before d.after p d.label d.namespace prefix d.prefix_is)
 
+-- a prefix that is not found is not declared
 not-declared : (ls : List Labelled) (p : Option (List ℕ)) (prefix : List ℕ) → namespace_of (declared_from p ls) prefix ≡ None → ¬ IsDeclared ls prefix
 not-declared ls p prefix none is =
     let found = IsDeclared-found ls p prefix is in
@@ -139,6 +155,7 @@ record IsPending (p : Option (List ℕ)) (ls : List Labelled) (prefix iri : List
   iri_is : SpellsIri value iri
   last : ¬ IsDeclared after prefix
 
+-- what a prefix stands for stays with one token more in front
 StandsFor-more : (l : Labelled) (ls : List Labelled) (prefix iri : List ℕ) → StandsFor ls prefix iri → StandsFor (l ∷ ls) prefix iri
 StandsFor-more l ls prefix iri s =
     let d = s.declaration in
@@ -152,6 +169,7 @@ label-role : (role : Role) (token : Lexeme) (prefix : List ℕ) → label_of rol
 label-role roles.Declared token prefix e = (refl, cc)
 label-role _ token prefix e = absurd (cc)
 
+-- a token that declares a prefix makes a declaration of the IRI after it
 pending-stands : (l : Labelled) (ls : List Labelled) (prefix iri : List ℕ) → IsProper l → IsPending (label_of l.role l.token) ls prefix iri → StandsFor (l ∷ ls) prefix iri
 pending-stands l ls prefix iri proper pending =
     let (role, same) = label-role l.role l.token prefix pending.prefix_is in
@@ -180,13 +198,16 @@ entry-found (Some q) roles.Namespace token prefix iri e =
     ] refl e
 entry-found p _ token prefix iri e = absurd (cc)
 
+-- an IRI is found of a declaration that has begun before, or of one among the tokens
 abbrev Found : Option (List ℕ) → List Labelled → List ℕ → List ℕ → Type 0
 Found p ls prefix iri = IsPending p ls prefix iri ⊎ StandsFor ls prefix iri
 
+-- an IRI that is found after the first token
 found-rest : (p : Option (List ℕ)) (l : Labelled) (ls : List Labelled) (prefix iri : List ℕ) → IsProper l → Found (label_of l.role l.token) ls prefix iri → Found p (l ∷ ls) prefix iri
 found-rest p l ls prefix iri proper (inl pending) = inr (pending-stands l ls prefix iri proper pending)
 found-rest p l ls prefix iri proper (inr stands) = inr (StandsFor-more l ls prefix iri stands)
 
+-- an IRI that the first token completes
 found-here : (p : Option (List ℕ)) (l : Labelled) (ls : List Labelled) (prefix iri : List ℕ) → IsProper l → ¬ IsDeclared ls prefix → namespace_of (entry p l.role l.token) prefix ≡ Some iri → Found p (l ∷ ls) prefix iri
 found-here p l ls prefix iri proper last e =
     let (role, prefix_is, same) = entry-found p l.role l.token prefix iri e in
@@ -200,6 +221,7 @@ found-here p l ls prefix iri proper last e =
       last = last;
     })
 
+-- an IRI that is found has a declaration
 namespace-found : (ls : List Labelled) (p : Option (List ℕ)) (prefix iri : List ℕ) → AreProper ls → namespace_of (declared_from p ls) prefix ≡ Some iri → Found p ls prefix iri
 namespace-found [] p prefix iri all e = absurd (cc)
 namespace-found (l ∷ ls) p prefix iri (first, others) e =
@@ -210,6 +232,7 @@ namespace-found (l ∷ ls) p prefix iri (first, others) e =
       | None ↦ λ is is_iri. found-here p l ls prefix iri first (not-declared ls (label_of l.role l.token) prefix is) is_iri
     ] refl both
 
+-- where no declaration has begun before, it is one among the tokens
 found-stands : (ls : List Labelled) (prefix iri : List ℕ) → Found None ls prefix iri → StandsFor ls prefix iri
 found-stands ls prefix iri (inl pending) = let e = pending.prefix_is in absurd (cc)
 found-stands ls prefix iri (inr stands) = stands
@@ -228,6 +251,7 @@ none-found : (ls : List Labelled) (prefix : List ℕ) → AreProper ls → ¬ Is
 none-found ls prefix all not None is = is
 none-found ls prefix all not (Some iri) is = let stands = found-stands ls prefix iri (namespace-found ls None prefix iri all is) in absurd (not (iri, stands.declaration))
 
+-- of a prefix that is not declared nothing is found
 pub not-declared-none : (ls : List Labelled) (prefix : List ℕ) → AreProper ls → ¬ IsDeclared ls prefix → namespace_of (namespaces_of ls) prefix ≡ None
 not-declared-none ls prefix all not = ap (λ ns. namespace_of ns prefix) (namespaces_of-from ls) ∙ none-found ls prefix all not (namespace_of (declared_from None ls) prefix) refl
 
@@ -245,6 +269,7 @@ last-found (l ∷ before) after p label value prefix iri all is is_iri last =
     found-append (entry p l.role l.token) rest prefix
     ∙ ap (λ o. option_or o (namespace_of (entry p l.role l.token) prefix)) (last-found before after (label_of l.role l.token) label value prefix iri all is is_iri last)
 
+-- the IRI for which a prefix stands is found
 pub StandsFor-found : (ls : List Labelled) (prefix iri : List ℕ) → AreProper ls → StandsFor ls prefix iri → namespace_of (namespaces_of ls) prefix ≡ Some iri
 StandsFor-found ls prefix iri all s =
     let d = s.declaration in

@@ -15,21 +15,26 @@ use Rattle.query_values.proofs.SpelledTokens.{SpellsVariable-is, name_of-spelled
 use Rattle.sparql_parse.proofs.DeclarationLaws.{AreProper}
 use Rattle.sparql_parse.proofs.TokenTerminals.{own_kind, terminal_of-kind}
 
+-- the test of variables
 pub is_variable-terminal : (t : Terminal) → is_variable t ≡ true → t ≡ terminals.Variable
 is_variable-terminal terminals.Variable e = refl
 is_variable-terminal _ e = absurd (cc)
 
+-- one token more puts its name where it is a variable
 names-step : (names : List (List ℕ)) (t : Terminal) (token : Lexeme) → names_after names t token ≡ cond (is_variable t) (with_name names (name_of token)) names
 names-step names terminals.Variable token = refl
 names-step names _ token = refl
 
+-- the names after one token more
 abbrev one_more : List (List ℕ) → Labelled → List (List ℕ)
 one_more names l = names_after names (terminal_of l.token) l.token
 
 module _ (l : Labelled) (ls : List Labelled) where
+  -- what is known of the other tokens
   abbrev Rest : Type 0
   Rest = (names occurring : List (List ℕ)) → OneByOne SpellsVariable (variables_of ls) occurring → fold one_more names ls ≡ fold with_name names occurring
 
+  -- one token, which is a variable or not
   fold-variable : Rest → (b : Bool) → is_variable (terminal_of l.token) ≡ b → (names occurring : List (List ℕ)) →
       OneByOne SpellsVariable (cond b (l.token ∷ variables_of ls) (variables_of ls)) occurring → fold one_more (one_more names l) ls ≡ fold with_name names occurring
   fold-variable rest true is names [] each = absurd each
@@ -40,6 +45,7 @@ module _ (l : Labelled) (ls : List Labelled) where
       ap (λ ns. fold one_more ns ls) (names-step names (terminal_of l.token) l.token ∙ ap (λ b. cond b (with_name names (name_of l.token)) names) is)
       ∙ rest names occurring each
 
+-- the names of the variables, put one by one
 fold-names : (ls : List Labelled) (names occurring : List (List ℕ)) → OneByOne SpellsVariable (variables_of ls) occurring → fold one_more names ls ≡ fold with_name names occurring
 fold-names [] names [] each = refl
 fold-names [] names (name ∷ occurring) each = absurd each
@@ -50,6 +56,7 @@ pub AreNames-is : (ls : List Labelled) (names : List (List ℕ)) → AreNames ls
 unfolding names_of
 AreNames-is ls names are = are.once ∙ sym (fold-names ls [] are.occurring are.spelled)
 
+-- each variable spells its name
 each-spelled : (ls : List Labelled) → AreProper ls → OneByOne SpellsVariable (variables_of ls) (map name_of (variables_of ls))
 each-spelled [] all = tt
 each-spelled (l ∷ ls) (first, others) =

@@ -49,6 +49,7 @@ module _ (tokens : List Labelled) (scope : Scope) (agrees : Agrees tokens scope)
   namespace-is : (prefix namespace : List ℕ) → StandsFor tokens prefix namespace → namespace_at scope prefix ≡ namespace
   namespace-is prefix namespace stands = ap (λ o. option_map_or (λ (i : List ℕ). i) o []) (agrees.found prefix namespace stands)
 
+  -- a prefix that is found stands for its IRI
   namespace-stands : (prefix : List ℕ) → is_some (namespace_of scope.namespaces prefix) ≡ true → StandsFor tokens prefix (namespace_at scope prefix)
   namespace-stands prefix some =
       elim (namespace_of scope.namespaces prefix) as (λ o. namespace_of scope.namespaces prefix ≡ o → is_some o ≡ true → StandsFor tokens prefix (option_map_or (λ (i : List ℕ). i) o [])) [
@@ -70,6 +71,7 @@ module _ (tokens : List Labelled) (scope : Scope) (agrees : Agrees tokens scope)
       ∙ sym (append-nil namespace)
       ∙ ap (λ l. namespace ++ l) (sym empty)
 
+  -- an IRI of any spelling is the one that is computed
   iri-is : (token : Lexeme) (characters : List ℕ) → IsIriOf tokens token characters → characters ≡ iri_in scope token
   iri-is token characters (IsIriOf.in_brackets s) = sym (ap (λ (k : TokenKind). iri_of_kind scope k token) s.kind ∙ SpellsIri-is token characters s)
   iri-is token characters (IsIriOf.by_prefix prefix local namespace s stands is) = is ∙ sym (name-is token prefix local namespace s stands)
@@ -78,6 +80,7 @@ module _ (tokens : List Labelled) (scope : Scope) (agrees : Agrees tokens scope)
   abbrev IsIriTerminal : Terminal → Type 0
   IsIriTerminal t = (t ≡ terminals.Iri) ⊎ ((t ≡ terminals.Prefixed) ⊎ (t ≡ terminals.Prefix))
 
+  -- a good token spells the IRI that is computed
   pub iri-of : (l : Labelled) → IsGood scope l → l.role ≢ roles.Declared → IsIriTerminal (terminal_of l.token) → IsIriOf tokens l.token (iri_in scope l.token)
   iri-of l good used (inl e) =
       let kind : l.token.kind ≡ kinds.Iri = terminal_of-kind l.token kinds.Iri (ap own_kind e) in
@@ -96,6 +99,7 @@ module _ (tokens : List Labelled) (scope : Scope) (agrees : Agrees tokens scope)
   abbrev at_term : (place : Place) (term computed : RdfTerm) → place ≡ places.Term (canonical_text term) → term ≡ computed → place ≡ places.Term (canonical_text computed)
   at_term place term computed is same = is ∙ ap (λ t. places.Term (canonical_text t)) same
 
+  -- a place that a node has is the one that is computed
   pub place-is : (node : Node) (place : Place) → IsPlaceOf (context_with tokens scope) node place → place ≡ place_of scope node
   place-is (VariableNode token) place (n, has, is) = is ∙ ap (λ m. places.Var (record { 0 = m })) (sym (HasNumber-is scope.names token n agrees.differ has))
   place-is (IriNode token) place (term, (characters, i, same), is) = at_term place term (iri (iri_in scope token)) is (same ∙ ap iri (iri-is token characters i))
@@ -112,6 +116,7 @@ module _ (tokens : List Labelled) (scope : Scope) (agrees : Agrees tokens scope)
   abbrev pub HasPlace : Node → Type 0
   HasPlace node = IsPlaceOf (context_with tokens scope) node (place_of scope node)
 
+  -- a variable that is good has the number that is computed
   pub number-of : (l : Labelled) → IsGood scope l → terminal_of l.token ≡ terminals.Variable → HasNumber scope.names l.token (number_of scope.names (name_of l.token))
   number-of l good e = record {
     name = name_of l.token;
@@ -119,32 +124,41 @@ module _ (tokens : List Labelled) (scope : Scope) (agrees : Agrees tokens scope)
     listed = number_of-listed scope.names (name_of l.token) (good.listed e);
   }
 
+  -- the place of a variable
   pub variable-place : (role : Role) (token : Lexeme) → IsGood scope (with_role role token) → terminal_of token ≡ terminals.Variable → HasPlace (VariableNode token)
   variable-place role token good e = (number_of scope.names (name_of token), number-of (with_role role token) good e, refl)
 
+  -- the place of an IRI
   pub iri-place : (role : Role) (token : Lexeme) → role ≢ roles.Declared → IsGood scope (with_role role token) → IsIriTerminal (terminal_of token) → HasPlace (IriNode token)
   iri-place role token used good e = (iri (iri_in scope token), (iri_in scope token, iri-of (with_role role token) good used e, refl), refl)
 
+  -- a string spells its lexical form
   string-of : (token : Lexeme) → IsSpelled token → terminal_of token ≡ terminals.Quoted → SpellsLexical token (lexical_of token)
   string-of token spelled e = lexical_of-spelled token spelled (terminal_of-kind token kinds.Quoted (ap own_kind e))
 
+  -- the place of a string
   pub string-place : (token : Lexeme) → IsSpelled token → terminal_of token ≡ terminals.Quoted → HasPlace (StringNode token)
   string-place token spelled e = (plain_literal token, (lexical_of token, string-of token spelled e, refl), refl)
 
+  -- the place of a string with a tag
   pub tagged-place : (token mark : Lexeme) → IsSpelled token → terminal_of token ≡ terminals.Quoted → IsSpelled mark → terminal_of mark ≡ terminals.Tag → HasPlace (TaggedNode token mark)
   tagged-place token mark spelled e mark_spelled t =
       (tagged (lexical_of token) (tag_of mark), (lexical_of token, tag_of mark, string-of token spelled e, tag_of-spelled mark mark_spelled (terminal_of-kind mark kinds.Tag (ap own_kind t)), refl), refl)
 
+  -- the place of a string with a datatype
   pub typed-place : (token name : Lexeme) → IsSpelled token → terminal_of token ≡ terminals.Quoted → IsGood scope (with_role roles.Datatype name) → IsIriTerminal (terminal_of name) → HasPlace (TypedNode token name)
   typed-place token name spelled e good t =
       let used : roles.Datatype ≢ roles.Declared = λ same. cc in
       (literal_of (lexical_of token) (iri_in scope name), (lexical_of token, iri_in scope name, string-of token spelled e, iri-of (with_role roles.Datatype name) good used t, refl), refl)
 
+  -- the place of a number
   pub number-place : (token : Lexeme) → terminal_of token ≡ terminals.Number → HasPlace (NumberNode token)
   number-place token e = (number_literal token, number-spelled token (terminal_of-number token e), refl)
 
+  -- the place of `true` or `false`
   pub boolean-place : (token : Lexeme) → terminal_of token ≡ terminals.Boolean → HasPlace (BooleanNode token)
   boolean-place token e = let (kind, word) = terminal_of-boolean token e in (boolean_literal token, boolean-spelled token kind word, refl)
 
+  -- the place of the word `a`
   pub type-place : (token : Lexeme) → HasPlace (TypeNode token)
   type-place token = (_, refl, refl)

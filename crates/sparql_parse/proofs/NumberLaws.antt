@@ -18,17 +18,21 @@ abbrev place_in : {A : Type 0} → (A → Bool) → List A → Option ℕ
 place_in p [] = None
 place_in p (x ∷ xs) = cond (p x) (Some 0) (option_map (λ n. 1 + n) (place_in p xs))
 
+-- how many items come before the first that passes
 abbrev front_of : {A : Type 0} → (A → Bool) → List A → ℕ
 front_of p xs = prefix_len (λ x. not (p x)) xs
 
+-- a place is one further with one item more in front
 shifted : (k n : ℕ) → (cond (nat_lt (1 + k) (1 + n)) (Some (1 + k)) None) ≡ option_map (λ m. 1 + m) (cond (nat_lt k n) (Some k) None)
 shifted k n =
     let same : nat_lt (1 + k) (1 + n) ≡ nat_lt k n = grind (arith, nat_tests) in
     ap (λ b. cond b (Some (1 + k)) None) same ∙ (elim (nat_lt k n) as (λ b. cond b (Some (1 + k)) None ≡ option_map (λ m. 1 + m) (cond b (Some k) None)) [ true ↦ refl | false ↦ refl ])
 
+-- the first place
 first_place : (n : ℕ) → (cond {A = Option ℕ} (nat_lt 0 (1 + n)) (Some 0) None) ≡ Some 0
 first_place n = let same : nat_lt 0 (1 + n) ≡ true = grind (arith, nat_tests) in ap (λ b. cond {A = Option ℕ} b (Some 0) None) same
 
+-- the place of std is the same
 position-place : {A : Type 0} (p : A → Bool) (xs : List A) → position p xs ≡ place_in p xs
 position-place p [] = refl
 position-place p (x ∷ xs) =
@@ -43,9 +47,11 @@ position-place p (x ∷ xs) =
 abbrev pub Differ : List (List ℕ) → Type 0
 Differ names = AllPairs (λ a b. a ≢ b) names
 
+-- names that differ still do without the first
 Differ-rest : (x : List ℕ) (xs : List (List ℕ)) → Differ (x ∷ xs) → Differ xs
 Differ-rest x xs h i j d lt within = h (suc i) (suc j) d (omega arith) (omega arith)
 
+-- a name that is listed at a place has that place
 listed-place : (names : List (List ℕ)) (name : List ℕ) (n : ℕ) → Differ names → slice_get names n ≡ Some name → place_in (is_text name) names ≡ Some n
 listed-place [] name zero differ e = absurd (cc)
 listed-place [] name (suc n) differ e = absurd (cc)
@@ -74,6 +80,7 @@ place-listed (x ∷ xs) name e =
           (suc n, ap (option_map (λ m. 1 + m)) place ∙ ap Some one, listed)
     ] refl e
 
+-- the number of a name is its place
 place-number : (names : List (List ℕ)) (name : List ℕ) (n : ℕ) → place_in (is_text name) names ≡ Some n → number_of names name ≡ n
 place-number names name n e = ap (λ o. option_map_or (λ m. m) o 0) (position-place (is_text name) names ∙ e)
 

@@ -10,14 +10,17 @@ use Rattle.sparql_parse.specs.Faults.{is_object, is_optional}
 use Rattle.sparql_parse.specs.computed.Faults.{fault_of}
 use Rattle.sparql_parse.specs.computed.Symbols.{one_more, symbols_of, symbols_after, fault_after}
 
+-- the names after one token more
 pub names-more : (ls : List Labelled) (l : Labelled) → names_of (ls ++ l ∷ []) ≡ names_after (names_of ls) (terminal_of l.token) l.token
 unfolding names_of
 names-more ls l = fold-append (λ names (m : Labelled). names_after names (terminal_of m.token) m.token) [] ls (l ∷ [])
 
+-- the declarations after one token more
 pub declarations-more : (ls : List Labelled) (l : Labelled) → declarations_of (ls ++ l ∷ []) ≡ declarations_after (declarations_of ls) l.role l.token
 unfolding declarations_of
 declarations-more ls l = fold-append (λ d (m : Labelled). declarations_after d m.role m.token) no_declarations ls (l ∷ [])
 
+-- how many there are after one token more
 pub count-more : (is_such : Role → Bool) (ls : List Labelled) (l : Labelled) → count_of is_such (ls ++ l ∷ []) ≡ one_more is_such (count_of is_such ls) l.role
 count-more is_such [] l = refl
 count-more is_such (m ∷ ls) l =

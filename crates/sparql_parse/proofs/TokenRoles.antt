@@ -30,9 +30,11 @@ every =
     terminals.Quoted ∷ terminals.Tag ∷ terminals.Number ∷ terminals.Open ∷ terminals.Close ∷ terminals.Stop ∷
     terminals.Semicolon ∷ terminals.Comma ∷ terminals.Star ∷ terminals.Carets ∷ terminals.Other ∷ []
 
+-- a test that all pass is passed by the first
 all-at : (p : Terminal → Bool) (ts : List Terminal) (t : Terminal) → list_all p (t ∷ ts) ≡ true → p t ≡ true
 all-at p ts t e = (and_parts (p t) (list_all p ts) e).0
 
+-- and by the rest
 all-rest : (p : Terminal → Bool) (ts : List Terminal) (t : Terminal) → list_all p (t ∷ ts) ≡ true → list_all p ts ≡ true
 all-rest p ts t e = (and_parts (p t) (list_all p ts) e).1
 
@@ -61,15 +63,18 @@ place terminals.Star = 19
 place terminals.Carets = 20
 place terminals.Other = 21
 
+-- the terminal symbol at a place
 abbrev nth : ℕ → List Terminal → Terminal
 nth n [] = terminals.Other
 nth zero (t ∷ ts) = t
 nth (suc n) (t ∷ ts) = nth n ts
 
+-- each terminal symbol is at its place
 nth-place : (t : Terminal) → nth (place t) every ≡ t
 nth-place t =
     elim t as (λ x. nth (place x) every ≡ x) [ terminals.PrefixWord ↦ refl | terminals.SelectWord ↦ refl | terminals.DistinctWord ↦ refl | terminals.WhereWord ↦ refl | terminals.OptionalWord ↦ refl | terminals.A ↦ refl | terminals.Boolean ↦ refl | terminals.Variable ↦ refl | terminals.Iri ↦ refl | terminals.Prefixed ↦ refl | terminals.Prefix ↦ refl | terminals.Quoted ↦ refl | terminals.Tag ↦ refl | terminals.Number ↦ refl | terminals.Open ↦ refl | terminals.Close ↦ refl | terminals.Stop ↦ refl | terminals.Semicolon ↦ refl | terminals.Comma ↦ refl | terminals.Star ↦ refl | terminals.Carets ↦ refl | terminals.Other ↦ refl ]
 
+-- a test that all pass is passed at each place
 nth-all : (p : Terminal → Bool) (n : ℕ) (ts : List Terminal) → p terminals.Other ≡ true → list_all p ts ≡ true → p (nth n ts) ≡ true
 nth-all p n [] other all = other
 nth-all p zero (t ∷ ts) other all = all-at p ts t all
@@ -87,10 +92,12 @@ fits_role roles.Namespace terminals.Iri = true
 fits_role roles.Namespace _ = false
 fits_role _ _ = true
 
+-- a token that is read has a terminal symbol that fits its role
 abbrev fits : Option Step → Terminal → Bool
 fits None t = true
 fits (Some step) t = fits_role step.role t
 
+-- so it is wherever the query is
 step_at-fits : (e : Expect) (n : ℕ) (t : Terminal) → fits (step_at e n t) t ≡ true
 step_at-fits expects.Prologue n t = for_every (λ x. fits (step_at expects.Prologue n x) x) refl refl t
 step_at-fits expects.DeclaredPrefix n t = for_every (λ x. fits (step_at expects.DeclaredPrefix n x) x) refl refl t
@@ -112,14 +119,17 @@ step_at-fits expects.AfterObject n t = for_every (λ x. fits (step_at expects.Af
 step_at-fits expects.AfterSemicolon n t = for_every (λ x. fits (step_at expects.AfterSemicolon n x) x) refl refl t
 step_at-fits expects.End n t = refl
 
+-- so it is of each token that is read
 next-fits : (s next : State) (t : Terminal) (role : Role) → next_step s t ≡ Some (step_of next role) → fits_role role t ≡ true
 unfolding next_step
 next-fits s next t role e = sym (ap (λ o. fits o t) e) ∙ step_at-fits s.expect s.groups t
 
+-- a prefix that is declared is of the terminal symbol of prefixes
 label-terminal : (t : Terminal) → fits_role roles.Declared t ≡ true → t ≡ terminals.Prefix
 label-terminal terminals.Prefix e = refl
 label-terminal _ e = absurd (cc)
 
+-- its IRI is of that of IRIs
 iri-terminal : (t : Terminal) → fits_role roles.Namespace t ≡ true → t ≡ terminals.Iri
 iri-terminal terminals.Iri e = refl
 iri-terminal _ e = absurd (cc)
@@ -129,10 +139,12 @@ other-unread : (e : Expect) (n : ℕ) → step_at e n terminals.Other ≡ None
 other-unread e n =
     elim e as (λ x. step_at x n terminals.Other ≡ None) [ expects.Prologue ↦ refl | expects.DeclaredPrefix ↦ refl | expects.Namespace ↦ refl | expects.Projection ↦ refl | expects.Columns ↦ refl | expects.MoreColumns ↦ refl | expects.WhereOrGroup ↦ refl | expects.Group ↦ refl | expects.Block ↦ refl | expects.AfterElement ↦ refl | expects.AfterSubjectString ↦ refl | expects.SubjectDatatype ↦ refl | expects.Verb ↦ refl | expects.Object ↦ refl | expects.AfterObjectString ↦ refl | expects.ObjectDatatype ↦ refl | expects.AfterObject ↦ refl | expects.AfterSemicolon ↦ refl | expects.End ↦ refl ]
 
+-- a bad token is of no terminal symbol, so it is not read
 bad-unread : (s : State) (token : Lexeme) → token.kind ≡ kinds.Bad → next_step s (terminal_of token) ≡ None
 unfolding next_step terminal_of
 bad-unread s token bad = ap (λ (k : TokenKind). step_at s.expect s.groups (terminal_of_text k token.text)) bad ∙ other-unread s.expect s.groups
 
+-- a token that is read is spelled
 pub read-spelled : (s : State) (token : Lexeme) (step : Step) → next_step s (terminal_of token) ≡ Some step → IsSpelledOrBad token → IsSpelled token
 read-spelled s token step is (inl bad) = let both : None ≡ Some step = sym (bad-unread s token bad) ∙ is in absurd (cc)
 read-spelled s token step is (inr spelled) = spelled

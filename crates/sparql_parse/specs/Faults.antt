@@ -11,10 +11,12 @@ use Rattle.query_values.specs.Iris.{SpellsPrefixedName}
 use Rattle.sparql_parse.specs.Declarations.{IsDeclared}
 use Rattle.sparql_parse.specs.Names.{AreNames}
 
+-- the first token of an object, of which there is one for each triple pattern
 abbrev pub is_object : Role → Bool
 is_object roles.Object = true
 is_object _ = false
 
+-- the word OPTIONAL
 abbrev pub is_optional : Role → Bool
 is_optional roles.Optional = true
 is_optional _ = false

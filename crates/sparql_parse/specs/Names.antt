@@ -19,9 +19,10 @@ abbrev pub with_item : {A : Type 0} → (A → A → Bool) → List A → A → 
 with_item same items item = if list_any (λ other. same other item) items then items else items ++ item ∷ []
 
 -- items, each once, in the order in which they first occur
-abbrev pub each_once : {A : Type 0} → (A → A → Bool) → List A → List A
-each_once same items = fold (with_item same) [] items
+abbrev pub first_of_each : {A : Type 0} → (A → A → Bool) → List A → List A
+first_of_each same items = fold (with_item same) [] items
 
+-- the terminal symbol of variables
 abbrev pub is_variable : Terminal → Bool
 is_variable terminals.Variable = true
 is_variable _ = false
@@ -34,7 +35,7 @@ variables_of tokens = filter (λ token. is_variable (terminal_of token)) (tokens
 pub record AreNames (tokens : List Labelled) (names : List (List ℕ)) : Type 0 where
   pub occurring : List (List ℕ)
   pub spelled : OneByOne SpellsVariable (variables_of tokens) occurring
-  pub once : names ≡ each_once same_text occurring
+  pub once : names ≡ first_of_each same_text occurring
 
 -- a variable has the number of the place at which its name is listed, from 0
 pub record HasNumber (names : List (List ℕ)) (token : Lexeme) (number : ℕ) : Type 0 where

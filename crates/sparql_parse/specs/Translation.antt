@@ -6,7 +6,7 @@ use Rattle.alg_model.specs.declared.pattern.TriplePat.{TriplePat}
 use Rattle.alg_model.specs.Pattern.{Algebra, Bgp, Join, LeftJoin, vars_of, triple_patterns}
 use Rattle.query_grammar.specs.Tree.{Node, Property, Same, ElementKind, Elements, EndOfGroup, Element, OptionalGroup, NestedGroup, Group, Columns, AllColumns, Variables}
 use Rattle.sparql_parse.specs.OneByOne.{OneByOne}
-use Rattle.sparql_parse.specs.Names.{each_once, HasNumber}
+use Rattle.sparql_parse.specs.Names.{first_of_each, HasNumber}
 use Rattle.sparql_parse.specs.Places.{Context, IsPlaceOf}
 
 -- three nodes of a block: ';' repeats the subject, and ',' the subject and the verb (4.2.1, 4.2.2)
@@ -73,6 +73,6 @@ IsNumbered pattern =
 -- the columns by their numbers: all variables of the pattern, in the order in which they first occur in it, or those of
 -- SELECT, each once
 abbrev pub AreColumnsOf : List (List ℕ) → Algebra → Columns → List ℕ → Type 0
-AreColumnsOf names pattern AllColumns columns = columns ≡ each_once ◌==◌ (vars_of pattern)
+AreColumnsOf names pattern AllColumns columns = columns ≡ first_of_each ◌==◌ (vars_of pattern)
 AreColumnsOf names pattern (Variables tokens) columns =
-    (numbers : List ℕ) × OneByOne (HasNumber names) tokens numbers × (columns ≡ each_once ◌==◌ numbers)
+    (numbers : List ℕ) × OneByOne (HasNumber names) tokens numbers × (columns ≡ first_of_each ◌==◌ numbers)

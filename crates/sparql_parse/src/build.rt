@@ -1,4 +1,4 @@
-// The translation of a query, of which the tokens are read one by one.
+//! The translation of a query, of which the tokens are read one by one.
 ghost use Rattle.std.specs.Prelude.{◌≡◌, ◌<◌, ◌^◌, ◌+◌, ◌≤◌, All, IfOk, OnOk, map, if◌then◌else◌};
 ghost use Rattle.query_tokens.specs.Token.{shown};
 ghost use Rattle.query_grammar.specs.Grammar.{IsQuery};
@@ -18,9 +18,9 @@ ghost use Rattle.query_values.specs.reading.Values.{IsSpelled};
 
 use crate::columns::{put_column, put_variables};
 use crate::group::Body;
-use crate::symbols::SymbolTable;
 use crate::node::{Node, node_of, with_datatype, with_tag};
 use crate::place::{number, place_of};
+use crate::symbols::SymbolTable;
 use alg_model::{Columns, Pattern, TriplePat};
 use query_grammar::Role;
 use query_tokens::{Token, TokenKind};
@@ -58,7 +58,7 @@ pub(crate) struct Builder<'a> {
 }
 
 impl<'a> Builder<'a> {
-    // Before the first token of a query.
+    /// Before the first token of a query.
     fn new(alloc: Global) -> Builder<'a>
         ensures state { state_in result ≡ start }
         ensures sound { IsSoundState (state_in result) }
@@ -81,7 +81,7 @@ impl<'a> Builder<'a> {
         }
     }
 
-    // The triple pattern of an object.
+    /// The triple pattern of an object.
     fn triple(&self, symbols: &SymbolTable, object: Node<'a>) -> Result<TriplePat, AllocError>
         requires sound { IsSoundState (state_in self.now) }
         requires object { IsSound (node_in object) }
@@ -95,7 +95,7 @@ impl<'a> Builder<'a> {
         })
     }
 
-    // Puts the object that was read last into the body.
+    /// Puts the object that was read last into the body.
     fn settle(&mut self, symbols: &SymbolTable) -> Result<(), AllocError>
         requires sound { IsSoundState (state_in self.old) }
         requires few { (state_in self.old).body.next + 1 < 2 ^ 16 }
@@ -111,7 +111,7 @@ impl<'a> Builder<'a> {
         }
     }
 
-    // A variable of the SELECT clause.
+    /// A variable of the SELECT clause.
     fn column(&mut self, symbols: &SymbolTable, token: Token<'a>) -> Result<(), AllocError>
         requires { MayTake (state_in self.old) (shown token) }
         ensures { OnOk result (IsTaken (scope_in symbols.now) (state_in self.old) roles.Column (shown token.entry) (state_in self.new)) }
@@ -120,7 +120,7 @@ impl<'a> Builder<'a> {
         put_column(&mut self.columns, var)
     }
 
-    // The `{` of a group.
+    /// The `{` of a group.
     fn open(&mut self, symbols: &SymbolTable, token: Token<'a>) -> Result<(), AllocError>
         requires { MayTake (state_in self.old) (shown token) }
         ensures { OnOk result (IsTaken (scope_in symbols.now) (state_in self.old) roles.Open (shown token.entry) (state_in self.new)) }
@@ -131,7 +131,7 @@ impl<'a> Builder<'a> {
         Ok(())
     }
 
-    // The `}` of a group.
+    /// The `}` of a group.
     fn close(&mut self, symbols: &SymbolTable, token: Token<'a>) -> Result<(), AllocError>
         requires { MayTake (state_in self.old) (shown token) }
         ensures { OnOk result (IsTaken (scope_in symbols.now) (state_in self.old) roles.Close (shown token.entry) (state_in self.new)) }
@@ -140,7 +140,7 @@ impl<'a> Builder<'a> {
         self.body.close()
     }
 
-    // The first token of a subject.
+    /// The first token of a subject.
     fn subject(&mut self, symbols: &SymbolTable, token: Token<'a>) -> Result<(), AllocError>
         requires { MayTake (state_in self.old) (shown token) }
         ensures { OnOk result (IsTaken (scope_in symbols.now) (state_in self.old) roles.Subject (shown token.entry) (state_in self.new)) }
@@ -150,7 +150,7 @@ impl<'a> Builder<'a> {
         Ok(())
     }
 
-    // The token of a verb.
+    /// The token of a verb.
     fn verb(&mut self, symbols: &SymbolTable, token: Token<'a>) -> Result<(), AllocError>
         requires { MayTake (state_in self.old) (shown token) }
         ensures { OnOk result (IsTaken (scope_in symbols.now) (state_in self.old) roles.Verb (shown token.entry) (state_in self.new)) }
@@ -160,7 +160,7 @@ impl<'a> Builder<'a> {
         Ok(())
     }
 
-    // The first token of an object.
+    /// The first token of an object.
     fn object(&mut self, symbols: &SymbolTable, token: Token<'a>) -> Result<(), AllocError>
         requires { MayTake (state_in self.old) (shown token) }
         ensures { OnOk result (IsTaken (scope_in symbols.now) (state_in self.old) roles.Object (shown token.entry) (state_in self.new)) }
@@ -170,7 +170,7 @@ impl<'a> Builder<'a> {
         Ok(())
     }
 
-    // The tag of a literal, which is the object that was read last, or the subject where there is none.
+    /// The tag of a literal, which is the object that was read last, or the subject where there is none.
     fn tag(&mut self, token: Token<'a>)
         requires sound { IsSoundState (state_in self.old) }
         requires spelled { IsSpelled (shown token) }
@@ -183,7 +183,7 @@ impl<'a> Builder<'a> {
         }
     }
 
-    // The datatype of a literal, which is the object that was read last, or the subject where there is none.
+    /// The datatype of a literal, which is the object that was read last, or the subject where there is none.
     fn datatype(&mut self, token: Token<'a>)
         requires sound { IsSoundState (state_in self.old) }
         requires spelled { IsSpelled (shown token) }
@@ -196,8 +196,13 @@ impl<'a> Builder<'a> {
         }
     }
 
-    // Takes a token in its role. Where memory runs out, nothing is said of the builder.
-    fn take(&mut self, symbols: &SymbolTable, role: Role, token: Token<'a>) -> Result<(), AllocError>
+    /// Takes a token in its role. Where memory runs out, nothing is said of the builder.
+    fn take(
+        &mut self,
+        symbols: &SymbolTable,
+        role: Role,
+        token: Token<'a>,
+    ) -> Result<(), AllocError>
         requires { MayTake (state_in self.old) (shown token) }
         ensures { OnOk result (IsTaken (scope_in symbols.now) (state_in self.old) role (shown token.entry) (state_in self.new)) }
     {
@@ -232,7 +237,7 @@ impl<'a> Builder<'a> {
         }
     }
 
-    // What the query means, whose last token is taken.
+    /// What the query means, whose last token is taken.
     fn finish(self) -> Result<Translation, AllocError>
         ensures pattern { IfOk result (λ translation. algebra_of translation.pattern ≡ (state_in self.entry).body.whole) }
         ensures columns { IfOk result (λ translation. map (λ column. column.0) translation.columns ≡ columns_after (state_in self.entry).body.whole (state_in self.entry).head) }
@@ -249,7 +254,7 @@ impl<'a> Builder<'a> {
     }
 }
 
-// All variables of a pattern, or the columns that SELECT names.
+/// All variables of a pattern, or the columns that SELECT names.
 fn columns_of(
     alloc: Global,
     all: bool,
@@ -266,7 +271,7 @@ fn columns_of(
     Ok(columns)
 }
 
-// Takes tokens in a row.
+/// Takes tokens in a row.
 fn take_all<'a>(
     builder: &mut Builder<'a>,
     symbols: &SymbolTable,

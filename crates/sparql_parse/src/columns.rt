@@ -1,4 +1,4 @@
-// The columns of a query: each variable once, in the order in which it first occurs.
+//! The columns of a query: each variable once, in the order in which it first occurs.
 ghost use Rattle.std.specs.Prelude.{◌≡◌, ◌==◌, OnOk, map, fold, flat_map};
 ghost use Rattle.std.specs.List.{list_any};
 ghost use Rattle.alg_model.specs.Pattern.{algebra_of, place_vars, triple_vars, vars_of};
@@ -7,7 +7,7 @@ ghost use Rattle.sparql_parse.specs.computed.Meaning.{with_number};
 use alg_model::{Columns, Pattern, Place, TriplePat, Var};
 use std::alloc::AllocError;
 
-// Whether the variable is among the columns.
+/// Whether the variable is among the columns.
 fn is_column(columns: &Columns, var: Var) -> bool
     ensures { result ≡ list_any (λ number. number == var.0) (map (λ column. column.0) columns.now) }
 {

@@ -1,4 +1,4 @@
-// The groups of a query that are open, with their patterns so far.
+//! The groups of a query that are open, with their patterns so far.
 ghost use Rattle.std.specs.Prelude.{◌≡◌, ◌<◌, ◌^◌, ◌+◌, [], ◌∷◌, IfOk, OnOk};
 ghost use Rattle.alg_model.specs.Pattern.{Bgp, algebra_of};
 ghost use Rattle.sparql_parse.specs.computed.Building.{closed, combined, in_innermost, joined_block, new_group, opened, pattern_so_far, with_group};
@@ -26,14 +26,14 @@ pub(crate) struct Body {
     whole: Pattern,
 }
 
-// The empty basic graph pattern.
+/// The empty basic graph pattern.
 fn empty_pattern(alloc: Global) -> Pattern
     ensures { algebra_of result ≡ Bgp [] }
 {
     Pattern::Bgp(PatList::new(alloc))
 }
 
-// A pattern with a block after it, if there is one.
+/// A pattern with a block after it, if there is one.
 fn joined_block(alloc: Global, pattern: Pattern, block: PatList) -> Result<Pattern, AllocError>
     ensures { IfOk result (λ joined. algebra_of joined ≡ joined_block (algebra_of pattern) block) }
 {
@@ -43,7 +43,7 @@ fn joined_block(alloc: Global, pattern: Pattern, block: PatList) -> Result<Patte
     Pattern::join(alloc, pattern, Pattern::Bgp(block))
 }
 
-// A pattern with that of a group in it: LeftJoin for OPTIONAL, else Join.
+/// A pattern with that of a group in it: LeftJoin for OPTIONAL, else Join.
 fn combined(
     alloc: Global,
     optional: bool,
@@ -60,7 +60,7 @@ fn combined(
 }
 
 impl OpenGroup {
-    // A group that is opened.
+    /// A group that is opened.
     fn new(alloc: Global, optional: bool) -> OpenGroup
         ensures { group_in result ≡ new_group optional }
     {
@@ -71,14 +71,14 @@ impl OpenGroup {
         }
     }
 
-    // The pattern, the last block included.
+    /// The pattern, the last block included.
     fn into_pattern(self, alloc: Global) -> Result<Pattern, AllocError>
         ensures { IfOk result (λ pattern. algebra_of pattern ≡ pattern_so_far (group_in self)) }
     {
         joined_block(alloc, self.pattern, self.block)
     }
 
-    // The group with another in it, which is closed.
+    /// The group with another in it, which is closed.
     fn with_group(self, alloc: Global, inner: OpenGroup) -> Result<OpenGroup, AllocError>
         ensures { IfOk result (λ group. group_in group ≡ with_group (group_in self) (group_in inner)) }
     {
@@ -141,7 +141,7 @@ impl Body {
         }
     }
 
-    // Closes a group that was the innermost, and is taken out.
+    /// Closes a group that was the innermost, and is taken out.
     fn close_in(&mut self, inner: OpenGroup) -> Result<(), AllocError>
         ensures { OnOk result (body_in self.new ≡ closed (record (body_in self.old) { groups = group_in inner ∷ (body_in self.old).groups })) }
     {

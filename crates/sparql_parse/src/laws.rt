@@ -1,4 +1,4 @@
-// Laws of the reading of queries. The calls do nothing: their contracts are the laws.
+//! Laws of the reading of queries. The calls do nothing: their contracts are the laws.
 ghost use Rattle.std.specs.Prelude.{◌≡◌, ◌↔◌, ◌⊎◌, ℕ, List, Ok, Err};
 ghost use Rattle.alg_model.specs.Query.{AbstractQuery};
 ghost use Rattle.sparql_parse.specs.declared.fault.QueryFault.{QueryFault};

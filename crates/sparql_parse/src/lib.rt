@@ -9,10 +9,10 @@ mod fault;
 mod group;
 mod laws;
 mod namespaces;
-mod symbols;
 mod node;
 mod place;
 mod query;
+mod symbols;
 mod tally;
 
 pub use fault::QueryFault;

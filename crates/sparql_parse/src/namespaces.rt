@@ -1,4 +1,4 @@
-// The declarations of prefixes.
+//! The declarations of prefixes.
 ghost use Rattle.std.specs.Prelude.{◌≡◌, ◌==◌, OnOk, IfOk, IfSome, All, IsSome, find, option_map, reverse, map, string_bytes};
 ghost use Rattle.std.specs.Cmp.Lexicographic.{pointwise};
 ghost use Rattle.std.specs.Str.{chars};
@@ -13,7 +13,7 @@ use query_values::{iri, prefix};
 use std::alloc::{AllocError, Global};
 use std::marker::Model;
 
-// A prefix, and the IRI for which it stands.
+/// A prefix, and the IRI for which it stands.
 #[derive(Debug, Drop)]
 pub(crate) struct Namespace {
     pub(crate) prefix: String,
@@ -86,7 +86,7 @@ impl Namespaces {
     }
 }
 
-// The namespace of a prefix that a token spells.
+/// The namespace of a prefix that a token spells.
 fn namespace_of(alloc: Global, prefix: &str, token: Token<'_>) -> Result<Namespace, AllocError>
     requires { IsSpelled (shown token) }
     ensures is { IfOk result (λ n. declared n ≡ namespace_with (chars prefix.now) (iri_of (shown token.entry))) }
@@ -109,7 +109,7 @@ fn iri_of_prefix<'a>(list: &'a [Namespace], prefix: &str) -> Option<&'a str>
     }
 }
 
-// The last of the declarations of a prefix.
+/// The last of the declarations of a prefix.
 fn last_of<'a>(list: &'a [Namespace], prefix: &str) -> Option<&'a Namespace>
     requires { All IsNamespace list.now }
     ensures { option_map (λ n. n.now) result ≡ find (λ n. pointwise ◌==◌ (string_bytes n.prefix) prefix.now) (reverse list.now) }

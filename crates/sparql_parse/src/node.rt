@@ -1,4 +1,4 @@
-// Subjects, verbs and objects, as their tokens.
+//! Subjects, verbs and objects, as their tokens.
 ghost use Rattle.std.specs.Prelude.{◌≡◌};
 ghost use Rattle.query_tokens.specs.Token.{shown};
 ghost use Rattle.query_grammar.specs.Terminals.{terminal_of};

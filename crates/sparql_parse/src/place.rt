@@ -1,4 +1,4 @@
-// The places of triple patterns: variables by their numbers, and terms.
+//! The places of triple patterns: variables by their numbers, and terms.
 ghost use Rattle.std.specs.Prelude.{◌≡◌, IfOk, string_bytes};
 ghost use Rattle.std.specs.Str.{chars};
 ghost use Rattle.query_tokens.specs.Token.{shown};
@@ -7,8 +7,8 @@ ghost use Rattle.sparql_parse.specs.held.Nodes.{IsSound, node_in};
 ghost use Rattle.sparql_parse.specs.held.Scopes.{scope_in};
 ghost use Rattle.query_values.specs.reading.Values.{AreIriChars, IsSpelled, name_of, prefix_of};
 
-use crate::symbols::SymbolTable;
 use crate::node::Node;
+use crate::symbols::SymbolTable;
 use alg_model::{Place, Var};
 use query_tokens::{Token, TokenKind};
 use query_values::{
@@ -28,7 +28,7 @@ pub(crate) fn number(symbols: &SymbolTable, token: Token<'_>) -> Var
     }
 }
 
-// The IRI for which the prefix of a token stands.
+/// The IRI for which the prefix of a token stands.
 fn namespace<'s>(symbols: &'s SymbolTable, token: Token<'_>) -> &'s str
     requires { IsSpelled (shown token) }
     ensures namespace { chars result.now ≡ namespace_at (scope_in symbols.now) (prefix_of (shown token.entry)) }
@@ -41,7 +41,7 @@ fn namespace<'s>(symbols: &'s SymbolTable, token: Token<'_>) -> &'s str
     }
 }
 
-// The IRI that a token of any spelling stands for.
+/// The IRI that a token of any spelling stands for.
 fn iri_of(alloc: Global, symbols: &SymbolTable, token: Token<'_>) -> Result<String, AllocError>
     requires { IsSpelled (shown token) }
     ensures iri { IfOk result (λ iri. chars (string_bytes iri) ≡ iri_in (scope_in symbols.now) (shown token.entry)) }
@@ -55,7 +55,11 @@ fn iri_of(alloc: Global, symbols: &SymbolTable, token: Token<'_>) -> Result<Stri
 }
 
 /// The place of a node: a variable, or a term.
-pub(crate) fn place_of(alloc: Global, symbols: &SymbolTable, node: Node<'_>) -> Result<Place, AllocError>
+pub(crate) fn place_of(
+    alloc: Global,
+    symbols: &SymbolTable,
+    node: Node<'_>,
+) -> Result<Place, AllocError>
     requires { IsSound (node_in node) }
     ensures { IfOk result (λ place. place ≡ place_of (scope_in symbols.now) (node_in node.entry)) }
 {

@@ -1,4 +1,4 @@
-// The reading of queries.
+//! The reading of queries.
 ghost use Rattle.std.specs.Prelude.{◌≡◌, ◌⊎◌, All, IfOk, IfErr, MatchResult, OnOk, Ok, Err, map, [], ◌∷◌, ◌++◌};
 ghost use Rattle.query_grammar.specs.Roles.{with_role};
 ghost use Rattle.sparql_parse.specs.held.Builds.{labelled_in};
@@ -30,7 +30,7 @@ pub(crate) struct Reader<'a> {
 }
 
 impl<'a> Reader<'a> {
-    // Before the first token.
+    /// Before the first token.
     fn new(alloc: Global) -> Reader<'a>
         ensures read { reading_in result ≡ first }
         ensures kept { IsKept result }
@@ -42,7 +42,7 @@ impl<'a> Reader<'a> {
         }
     }
 
-    // Reads one token more.
+    /// Reads one token more.
     fn take(&mut self, token: Token<'a>) -> Result<(), QueryFault>
         requires kept { IsKept self.old }
         requires spelled { IsSpelledOrBad (shown token) }
@@ -68,7 +68,7 @@ impl<'a> Reader<'a> {
         }
     }
 
-    // The query of tokens that are one.
+    /// The query of tokens that are one.
     fn into_query(self, alloc: Global) -> Result<Query, AllocError>
         requires kept { IsKept self }
         requires at_end { self.state.expect ≡ Expect.End }
@@ -85,7 +85,7 @@ impl<'a> Reader<'a> {
     }
 }
 
-// Puts a token in its role at the end.
+/// Puts a token in its role at the end.
 fn put_token<'a>(
     tokens: &mut Vec<ReadToken<'a>>,
     role: Role,
@@ -97,7 +97,7 @@ fn put_token<'a>(
     Ok(())
 }
 
-// The fault of a token with which the grammar does not go on.
+/// The fault of a token with which the grammar does not go on.
 fn grammar_fault(token: Token<'_>) -> QueryFault
     ensures { result ≡ word_fault token.entry.at (unsupported_word (shown token.entry)) }
 {
@@ -107,7 +107,7 @@ fn grammar_fault(token: Token<'_>) -> QueryFault
     }
 }
 
-// Reads tokens up to the first fault.
+/// Reads tokens up to the first fault.
 fn read_all<'a>(alloc: Global, tokens: &[Token<'a>]) -> Result<Reader<'a>, QueryFault>
     requires spelled { All IsSpelledOrBad (map shown tokens.now) }
     ensures read { IfOk result (λ reader. read_on first (map shown tokens.now) ≡ Ok (reading_in reader)) }
@@ -148,7 +148,7 @@ pub fn parse_query(alloc: Global, text: &[u8]) -> Result<Query, QueryFault>
     }
 }
 
-// The same of a text that is UTF-8.
+/// The same of a text that is UTF-8.
 fn parse_text(alloc: Global, text: &str) -> Result<Query, QueryFault>
     ensures reads { MatchResult result (λ query. text_reading text.now ≡ Ok (abstract_of query)) (IsMemoryOr (text_reading text.now)) }
     ensures limits { IfOk result KeepsLimits }

@@ -1,4 +1,4 @@
-// The names and prefixes of a query, and its limits.
+//! The names and prefixes of a query, and its limits.
 ghost use Rattle.std.specs.Prelude.{◌≡◌, ◌⊎◌, ◌<◌, [], OnOk, OnErr, IfErr, IfSome, None, Some, length, position, option_map};
 ghost use Rattle.std.specs.Str.{chars};
 ghost use Rattle.query_tokens.specs.Token.{shown};
@@ -109,7 +109,7 @@ impl SymbolTable {
         }
     }
 
-    // The fault of a token.
+    /// The fault of a token.
     fn fault(
         &self,
         role: Role,
@@ -128,7 +128,7 @@ impl SymbolTable {
         tally.fault(self.names_after(terminal, token), depth, token.at)
     }
 
-    // Whether a token uses a prefix that is not declared.
+    /// Whether a token uses a prefix that is not declared.
     fn is_unknown(&self, role: Role, token: Token<'_>) -> bool
         requires { IsSpelled (shown token) }
         ensures { result ≡ is_unknown self.now.declarations.namespaces (with_role role (shown token.entry)) }
@@ -136,7 +136,7 @@ impl SymbolTable {
         uses_prefix(token.kind, role) && self.namespaces.find(prefix(token)).is_none()
     }
 
-    // How many names there are after a token.
+    /// How many names there are after a token.
     fn names_after(&self, terminal: Terminal, token: Token<'_>) -> usize
         ensures { result ≡ length (names_after self.now.names terminal (shown token.entry)) }
     {
@@ -147,7 +147,7 @@ impl SymbolTable {
         }
     }
 
-    // Keeps what is to be kept of a token that has no fault.
+    /// Keeps what is to be kept of a token that has no fault.
     fn keep(&mut self, role: Role, terminal: Terminal, token: Token<'_>) -> Result<(), AllocError>
         requires spelled { IsSpelled (shown token) }
         requires terminal { terminal ≡ terminal_of (shown token) }
@@ -161,7 +161,7 @@ impl SymbolTable {
     }
 }
 
-// Whether a token is a variable whose name is not there yet.
+/// Whether a token is a variable whose name is not there yet.
 fn is_new(names: &Names, terminal: Terminal, token: Token<'_>) -> bool
     ensures { result ≡ is_new_name names.now terminal (shown token.entry) }
 {
@@ -171,7 +171,7 @@ fn is_new(names: &Names, terminal: Terminal, token: Token<'_>) -> bool
     }
 }
 
-// Puts the name of a variable at the end, unless it is there.
+/// Puts the name of a variable at the end, unless it is there.
 fn add_name(names: &mut Names, terminal: Terminal, token: Token<'_>) -> Result<(), AllocError>
     ensures ok { OnOk result (names.new ≡ names_after names.old terminal (shown token.entry)) }
     ensures err { OnErr result (names.new ≡ names.old) }
@@ -182,7 +182,7 @@ fn add_name(names: &mut Names, terminal: Terminal, token: Token<'_>) -> Result<(
     Ok(())
 }
 
-// Whether a token of this kind and role uses a prefix.
+/// Whether a token of this kind and role uses a prefix.
 fn uses_prefix(kind: TokenKind, role: Role) -> bool
     ensures { result ≡ uses_prefix kind role }
 {

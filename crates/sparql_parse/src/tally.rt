@@ -1,4 +1,4 @@
-// The limits of a query, but those of its names.
+//! The limits of a query, but those of its names.
 ghost use Rattle.std.specs.Prelude.{◌≡◌, ◌≤◌};
 ghost use Rattle.alg_model.specs.Limits.{max_triple_patterns, max_optionals, max_groups};
 ghost use Rattle.sparql_parse.specs.computed.Faults.{limit_among};

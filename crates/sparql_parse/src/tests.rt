@@ -2,7 +2,7 @@ use crate::{QueryFault, parse_query};
 use query_grammar::Word;
 use std::test::Fail;
 
-// Faults, and their texts.
+/// Faults, and their texts.
 #[test]
 fn faults_have_texts(rt: HostRuntime) -> Result<(), Fail> {
     let word = Word::Filter;
@@ -41,7 +41,7 @@ fn faults_have_texts(rt: HostRuntime) -> Result<(), Fail> {
     Ok(())
 }
 
-// A query, and a text that is none.
+/// A query, and a text that is none.
 #[test]
 fn texts_are_queries_or_have_a_fault(rt: HostRuntime) {
     assert!(rt; parse_query(rt.alloc(), b"SELECT ?x { ?x a ?y }").is_ok());

@@ -11,7 +11,7 @@ use Rattle.alg_model.specs.declared.pattern.TriplePat.{TriplePat}
 use Rattle.alg_model.specs.Pattern.{Algebra, Bgp, Join, LeftJoin, vars_of}
 use Rattle.query_grammar.specs.Tree.{Node, VariableNode, IriNode, StringNode, TaggedNode, TypedNode, NumberNode, BooleanNode, TypeNode, Same, ElementKind, Elements, EndOfGroup, Element, OptionalGroup, NestedGroup, Group, Columns, AllColumns, Variables}
 use Rattle.query_grammar.specs.Roles.{Labelled}
-use Rattle.sparql_parse.specs.Names.{with_item, each_once}
+use Rattle.sparql_parse.specs.Names.{with_item, first_of_each}
 use Rattle.sparql_parse.specs.Translation.{NodeTriple, triples_of_block}
 use Rattle.sparql_parse.specs.computed.Names.{Namespace, namespace_of, is_text, names_of, namespaces_of}
 use Rattle.query_values.specs.reading.Values.{iri_of, prefix_of, prefixed_iri, name_of, plain_literal, tagged_literal, typed_literal, number_literal, boolean_literal, type_iri}
@@ -102,7 +102,7 @@ with_number numbers n = with_item ◌==◌ numbers n
 
 -- numbers, each once, in the order in which they first occur
 abbrev pub each_first : List ℕ → List ℕ
-each_first numbers = each_once ◌==◌ numbers
+each_first numbers = first_of_each ◌==◌ numbers
 
 -- the columns: all variables of the pattern, in the order in which they first occur in it, or those of SELECT
 abbrev pub columns_of : Scope → Algebra → Columns → List ℕ
