@@ -1,4 +1,4 @@
--- What a command is to do: a status, what is printed, what is written to standard error, and the file that is written.
+-- A verdict: a status, what is printed, what is written to standard error, and the file that is written.
 use Rattle.std.specs.Prelude.{◌≡◌, ◌⊎◌, ℕ, List, [], take, Option, None, Some}
 use Rattle.std.specs.Option.{option_map_or}
 use Rattle.std.specs.FinMap.{insert}
