@@ -1,3 +1,4 @@
+pub mod Computed
 pub mod Places
 pub mod Refusals
 pub mod Walk
