@@ -1,9 +1,11 @@
 -- The lines that the program writes to standard error, and the limits that they name. They are this project's own.
-use Rattle.std.specs.Prelude.{ℕ, List, [], ◌++◌, codes, decimal, Option, None, Some}
+use Rattle.std.specs.Prelude.{ℕ, List, [], ◌++◌, codes, decimal, Option, None, Some, slice_index_or}
 use Rattle.sparql_parse.specs.declared.fault.QueryFault.{QueryFault}
 use Rattle.sparql_parse.specs.Causes.{cause_text, byte_of}
+use Rattle.well_designed.specs.declared.refusals.Refusal.{Refusal as PatternRefusal}
+use Rattle.well_designed.specs.declared.refusals.Refusal.TheVariants as patterns
 use Rattle.bm_top.specs.declared.refusal.QueryRefusal.{QueryRefusal}
-use Rattle.bm_top.specs.declared.refusal.QueryRefusal.TheVariants.{Fault}
+use Rattle.bm_top.specs.declared.refusal.QueryRefusal.TheVariants as queries
 use Rattle.bm_top.specs.declared.refusal.Refusal.{Refusal}
 use Rattle.bm_top.specs.declared.refusal.Refusal.TheVariants as refusals
 
@@ -41,8 +43,31 @@ at_byte (Some at) = codes " at byte " ++ decimal at
 abbrev pub fault_line : QueryFault → List ℕ
 fault_line fault = codes "query refused: " ++ (cause_text fault ++ (at_byte (byte_of fault) ++ codes "\n"))
 
+-- an OPTIONAL fails, of which the number from 1 is told, and the name of a variable
+abbrev pub not_well_designed_line : ℕ → List ℕ → List ℕ
+not_well_designed_line optional name =
+    codes "query refused: not well designed: optional " ++ (decimal optional ++ (codes ", variable ?" ++ (name ++ codes "\n")))
+
+-- a triple pattern has three variables, of which the number from 1 is told
+abbrev pub three_places_line : ℕ → List ℕ
+three_places_line pattern = codes "query refused: three variables in pattern " ++ (decimal pattern ++ codes "\n")
+
+-- a variable stands at both kinds of place
+abbrev pub cross_place_line : List ℕ → List ℕ
+cross_place_line name = codes "query refused: variable ?" ++ (name ++ codes " at predicate and node places\n")
+
+-- the line of a pattern that is refused, in a query with these names of variables
+abbrev pub pattern_line : List (List ℕ) → PatternRefusal → List ℕ
+pattern_line names (patterns.NotWellDesigned optional var) = not_well_designed_line optional (slice_index_or names var.0 [])
+pattern_line names (patterns.ThreePlaces pattern) = three_places_line pattern
+pattern_line names (patterns.CrossPlace var) = cross_place_line (slice_index_or names var.0 [])
+
+-- the line of a refusal of the code, which has the names themselves
 abbrev pub query_line : QueryRefusal → List ℕ
-query_line (Fault fault) = fault_line fault
+query_line (queries.Fault fault) = fault_line fault
+query_line (queries.NotWellDesigned optional name) = not_well_designed_line optional name.items
+query_line (queries.ThreePlaces pattern) = three_places_line pattern
+query_line (queries.CrossPlace name) = cross_place_line name.items
 
 -- the status of a refusal, and its line
 abbrev pub refusal_status : Refusal → ℕ

@@ -8,12 +8,13 @@ use Rattle.bm_term.specs.Graph.{IsGraph}
 use Rattle.nt_read.specs.Lines.{AreLines, IsFirstBadLine, SpellTriples}
 use Rattle.alg_model.specs.Answers.{answers_to}
 use Rattle.alg_model.specs.Query.{AbstractQuery}
+use Rattle.sparql_parse.specs.declared.fault.QueryFault.{QueryFault}
 use Rattle.sparql_parse.specs.Denotes.{Denotes, IsFaultOf}
+use Rattle.well_designed.specs.declared.refusals.Refusal.{Refusal}
+use Rattle.well_designed.specs.Refusals.{IsAccepted, IsRefused}
 use Rattle.bm_world.specs.Meanings.{Files}
-use Rattle.bm_top.specs.declared.refusal.QueryRefusal.{QueryRefusal}
-use Rattle.bm_top.specs.declared.refusal.QueryRefusal.TheVariants.{Fault}
 use Rattle.bm_top.specs.Command.{ask, request_of}
-use Rattle.bm_top.specs.Lines.{max_data_bytes, max_query_bytes, usage_line, read_fault_line, limit_line, bad_line_line, query_line}
+use Rattle.bm_top.specs.Lines.{max_data_bytes, max_query_bytes, usage_line, read_fault_line, limit_line, bad_line_line, fault_line, pattern_line}
 use Rattle.bm_top.specs.Tsv.{tsv_text}
 use Rattle.bm_top.specs.Verdict.{Verdict, answered, refused}
 
@@ -23,7 +24,7 @@ pub record AreNTriples (bytes : List ℕ) (triples : List Triple) : Type 0 where
   pub are_lines : AreLines bytes lines
   pub spelled : SpellTriples lines triples
 
--- the text of the solutions of a query over the set of triples of the data
+-- the text of the solutions of an accepted query over the set of triples of the data
 pub record IsAnswer (bytes text printed : List ℕ) : Type 0 where
   pub triples : List Triple
   pub graph : List Triple
@@ -31,6 +32,7 @@ pub record IsAnswer (bytes text printed : List ℕ) : Type 0 where
   pub are_triples : AreNTriples bytes triples
   pub is_graph : IsGraph triples graph
   pub denoted : Denotes text query
+  pub accepted : IsAccepted query.pattern
   pub is_text : printed ≡ tsv_text query (answers_to query graph)
 
 -- the line of the first bad line of the data
@@ -39,17 +41,17 @@ pub record IsBadData (bytes line : List ℕ) : Type 0 where
   pub is_bad : IsFirstBadLine bytes number
   pub is_line : line ≡ bad_line_line number
 
--- why a text is refused as a query: it has a fault
-abbrev pub IsRefusedFor : List ℕ → QueryRefusal → Type 0
-IsRefusedFor text (Fault fault) = IsFaultOf text fault
+-- the line of the refusal of a text as a query: it has a fault, or it denotes a query whose pattern is refused
+pub data IsRefusedText (text line : List ℕ) : Type 0 where
+  has_fault : (fault : QueryFault) → IsFaultOf text fault → line ≡ fault_line fault → IsRefusedText text line
+  has_pattern : (query : AbstractQuery) (refusal : Refusal) → Denotes text query → IsRefused query.pattern refusal
+      → line ≡ pattern_line query.names refusal → IsRefusedText text line
 
 -- the line of the refusal of a query over data without a bad line
 pub record IsRefusal (bytes text line : List ℕ) : Type 0 where
   pub triples : List Triple
-  pub refusal : QueryRefusal
   pub are_triples : AreNTriples bytes triples
-  pub is_refused : IsRefusedFor text refusal
-  pub is_line : line ≡ query_line refusal
+  pub is_refused : IsRefusedText text line
 
 -- The verdict of a command: the first step in its order that has a condition that holds.
 

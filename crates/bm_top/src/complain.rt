@@ -3,7 +3,7 @@ ghost use Rattle.std.specs.List.{flat_map};
 ghost use Rattle.bm_world.specs.Meanings.{with_complained};
 ghost use Rattle.bm_world.specs.World.{Step, RisesOnErr, AppendsAll};
 ghost use Rattle.bm_top.specs.steps.Ending.{line_of};
-ghost use Rattle.bm_top.specs.Lines.{fault_line, refusal_line};
+ghost use Rattle.bm_top.specs.Lines.{fault_line, query_line, refusal_line};
 
 use crate::ending::Ending;
 use crate::refusal::{QueryRefusal, Refusal};
@@ -49,9 +49,7 @@ fn complain_refusal<W: World>(refusal: &Refusal<'_>, world: &mut W) -> Result<()
     let mut number = Buffer::new();
     match refusal {
         Refusal::Usage => complain_all(world, USAGE),
-        Refusal::Query {
-            refusal: QueryRefusal::Fault { fault },
-        } => complain_fault(*fault, world),
+        Refusal::Query { refusal } => complain_query(refusal, world),
         Refusal::BadLine { line } => {
             complain_pieces(
                 world,
@@ -75,7 +73,45 @@ fn complain_refusal<W: World>(refusal: &Refusal<'_>, world: &mut W) -> Result<()
     }
 }
 
-/// Writes to standard error what is wrong with a query, and where.
+fn complain_query<W: World>(refusal: &QueryRefusal, world: &mut W) -> Result<(), Failed>
+    ensures step { Step (W.told world.old) (W.told world.new) (AppendsAll with_complained (query_line refusal.now) result) }
+    ensures cause { RisesOnErr (W.faults world.old).says (W.faults world.new).says result }
+    ensures reads_stay { (W.faults world.new).reads ≡ (W.faults world.old).reads }
+    ensures writes_stay { (W.faults world.new).writes ≡ (W.faults world.old).writes }
+{
+    let mut number = Buffer::new();
+    match refusal {
+        QueryRefusal::Fault { fault } => complain_fault(*fault, world),
+        QueryRefusal::NotWellDesigned { optional, name } => complain_pieces(
+            world,
+            &[
+                b"query refused: not well designed: optional ",
+                number.format(*optional).as_bytes(),
+                b", variable ?",
+                name,
+                LINE_END,
+            ],
+        ),
+        QueryRefusal::ThreePlaces { pattern } => complain_pieces(
+            world,
+            &[
+                b"query refused: three variables in pattern ",
+                number.format(*pattern).as_bytes(),
+                LINE_END,
+            ],
+        ),
+        QueryRefusal::CrossPlace { name } => complain_pieces(
+            world,
+            &[
+                b"query refused: variable ?",
+                name,
+                b" at predicate and node places\n",
+            ],
+        ),
+    }
+}
+
+/// Writes to standard error what is wrong with the text of a query, and where.
 fn complain_fault<W: World>(fault: QueryFault, world: &mut W) -> Result<(), Failed>
     ensures step { Step (W.told world.old) (W.told world.new) (AppendsAll with_complained (fault_line fault) result) }
     ensures cause { RisesOnErr (W.faults world.old).says (W.faults world.new).says result }

@@ -1,6 +1,7 @@
 ghost use Rattle.bm_top.specs.steps.VerdictOf.{decided};
 ghost use Rattle.bm_top.specs.steps.Decide.{IsDecided, from_data, from_query};
 
+use crate::accept::accept;
 use crate::answers::answers;
 use crate::data::read_data;
 use crate::graph::graph;
@@ -11,7 +12,7 @@ use sparql_parse::{QueryFault, parse_query};
 use std::alloc::{AllocError, Global};
 
 /// Why there is no text to print.
-#[derive(Clone, Copy, Debug)]
+#[derive(Debug, Drop)]
 pub(crate) enum Undecided {
     BadLine { line: u64 },
     Query { refusal: QueryRefusal },
@@ -59,7 +60,8 @@ impl From<AllocError> for Undecided {
     }
 }
 
-/// The text that answers a query over data, or why there is none: the first bad line, and then the query. The data is
+/// The text that answers a query over data, or why there is none: the first bad line, and then the refusal of the query.
+/// The data is
 /// let go once its triples are read.
 pub(crate) fn decide(alloc: Global, data: Vec<u8>, query: &[u8]) -> Result<Vec<u8>, Undecided>
     ensures { IsDecided (decided «data».items query.now) result }
@@ -67,6 +69,7 @@ pub(crate) fn decide(alloc: Global, data: Vec<u8>, query: &[u8]) -> Result<Vec<u
     let triples = read_data(alloc, &data)?;
     drop(data);
     let query = parse_query(alloc, query)?;
+    accept(alloc, &query)?;
     let graph = graph(alloc, triples)?;
     let answers = answers(alloc, &query, &graph)?;
     Ok(tsv(alloc, &query, &answers)?)

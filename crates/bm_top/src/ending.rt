@@ -1,7 +1,7 @@
 use crate::refusal::Refusal;
 
 /// How a command ended.
-#[derive(Clone, Copy, Debug)]
+#[derive(Debug, Drop)]
 pub(crate) enum Ending<'a> {
     /// All was printed, and written.
     Done,

@@ -1,6 +1,7 @@
 //! The top of the program: what a command does, from the bytes that come in to the bytes that go out.
 #![tactic(auto)]
 
+mod accept;
 mod answer_row;
 mod answers;
 mod args;

@@ -1,14 +1,21 @@
 use sparql_parse::QueryFault;
 
-/// Why a query is refused.
-#[derive(Clone, Copy, Debug)]
+/// Why a query is refused, with what its line names.
+#[derive(Debug, Drop)]
 pub(crate) enum QueryRefusal {
     /// The text denotes no query: its first fault.
     Fault { fault: QueryFault },
+    /// The pattern is not well designed: the number, from 1, of the first OPTIONAL that fails, and the name of the least
+    /// variable that offends there.
+    NotWellDesigned { optional: u8, name: Vec<u8> },
+    /// A triple pattern has three variables: the least number of such a one, from 1.
+    ThreePlaces { pattern: u16 },
+    /// A variable is at a predicate place and at a node place: the name of the least such variable.
+    CrossPlace { name: Vec<u8> },
 }
 
 /// Why a command is refused, with what its line names.
-#[derive(Clone, Copy, Debug)]
+#[derive(Debug, Drop)]
 pub(crate) enum Refusal<'a> {
     /// The words are no command.
     Usage,

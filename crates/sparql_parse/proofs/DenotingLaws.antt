@@ -282,7 +282,7 @@ computed-denotes text query d =
     }
 
 -- a query that is denoted is computed
-denotes-computed : (text : List ℕ) (query : AbstractQuery) → Denotes text query → computed.Denotes text query
+pub denotes-computed : (text : List ℕ) (query : AbstractQuery) → Denotes text query → computed.Denotes text query
 denotes-computed text query d =
     let all = query-proper text d.tokens d.labelled d.tree d.utf8 d.are_tokens d.same_tokens d.is_query in
     record {

@@ -7,6 +7,7 @@ mod ComputedDenotes
 mod ComputedLaws
 mod Counting
 mod DeclarationLaws
+pub mod DenotedLimits
 pub mod DenotingLaws
 mod FaultFree
 mod FaultFreeRuns

@@ -66,7 +66,7 @@ unfolding fault_after
 fault-limit k depth l e = ap (λ b. if b then Some (faults.UnknownPrefix l.token.at) else limit_among l.token.at (counts_after k depth l)) e
 
 -- counts that pass no limit
-within : (at : ℕ) (c : Counts) → limit_among at c ≡ None → (c.names ≤ 64) × (c.objects ≤ 256) × (c.optionals ≤ 63) × (c.groups ≤ 256)
+pub within : (at : ℕ) (c : Counts) → limit_among at c ≡ None → (c.names ≤ 64) × (c.objects ≤ 256) × (c.optionals ≤ 63) × (c.groups ≤ 256)
 within at c none = (grind (arith, nat_tests), grind (arith, nat_tests), grind (arith, nat_tests), grind (arith, nat_tests))
 
 shallow : (at : ℕ) (c : Counts) → limit_among at c ≡ None → c.depth ≤ 32

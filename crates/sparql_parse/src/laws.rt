@@ -1,5 +1,6 @@
 //! Laws of the reading of queries. The calls do nothing: their contracts are the laws.
-ghost use Rattle.std.specs.Prelude.{◌≡◌, ◌↔◌, ◌⊎◌, ℕ, List, Ok, Err};
+ghost use Rattle.std.specs.Prelude.{◌≡◌, ◌↔◌, ◌⊎◌, ◌≤◌, ℕ, List, Ok, Err, length};
+ghost use Rattle.alg_model.specs.Limits.{max_variables, PatternKeepsLimits};
 ghost use Rattle.alg_model.specs.Query.{AbstractQuery};
 ghost use Rattle.sparql_parse.specs.declared.fault.QueryFault.{QueryFault};
 ghost use Rattle.sparql_parse.specs.Denotes.{Denotes, IsFaultOf};
@@ -18,4 +19,10 @@ pub fn a_text_denotes_one_query_or_has_one_fault()
     ensures one_query { (text : List ℕ) (query other : AbstractQuery) → Denotes text query → Denotes text other → query ≡ other }
     ensures one_fault { (text : List ℕ) (fault other : QueryFault) → IsFaultOf text fault → IsFaultOf text other → fault ≡ other }
     ensures not_both { (text : List ℕ) (query : AbstractQuery) (fault : QueryFault) → Denotes text query → ¬ IsFaultOf text fault }
+{}
+
+/// A query that a text denotes keeps the limits.
+pub fn a_query_that_is_denoted_keeps_the_limits()
+    ensures names { (text : List ℕ) (query : AbstractQuery) → Denotes text query → length query.names ≤ max_variables }
+    ensures pattern { (text : List ℕ) (query : AbstractQuery) → Denotes text query → PatternKeepsLimits (length query.names) query.pattern }
 {}

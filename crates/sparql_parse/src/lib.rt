@@ -16,7 +16,10 @@ mod symbols;
 mod tally;
 
 pub use fault::QueryFault;
-pub use laws::{a_text_denotes_one_query_or_has_one_fault, what_is_read_is_what_is_denoted};
+pub use laws::{
+    a_query_that_is_denoted_keeps_the_limits, a_text_denotes_one_query_or_has_one_fault,
+    what_is_read_is_what_is_denoted,
+};
 pub use query::parse_query;
 
 #[cfg(test)]

@@ -45,7 +45,7 @@ var_from_Contains : (place : Place) (var : ℕ) → Contains (place_vars place) 
 var_from_Contains (places.Var place) var at = Contains-single place.0 var at
 var_from_Contains (places.Term text) var at = Contains-nil var at
 
-Contains-from_var : (place : Place) (var : ℕ) → IsVar place var → Contains (place_vars place) var
+pub Contains-from_var : (place : Place) (var : ℕ) → IsVar place var → Contains (place_vars place) var
 Contains-from_var (places.Var place) var is = subst (Contains (place.0 ∷ [])) is (Contains-head place.0 [])
 Contains-from_var (places.Term text) var is = absurd is
 

@@ -4,5 +4,6 @@ pub mod Offenders
 pub mod Sides
 pub mod Verdicts
 pub mod ComputedRefusal
+pub mod NamedVars
 pub mod Refusing
 pub mod Examples

@@ -1,5 +1,5 @@
 -- Carries proofs only: why a pattern is refused, as a function.
-use Rattle.std.specs.Prelude.{ℕ, false, true, ◌==◌, if◌then◌else◌, Option, Some, None}
+use Rattle.std.specs.Prelude.{ℕ, ◌<◌, false, true, ◌==◌, if◌then◌else◌, Option, Some, None}
 use Rattle.std.specs.Int.{w64, trailing_zeros}
 use Rattle.std.specs.Int.Bits.{bit_and}
 use Rattle.alg_model.specs.declared.var.Var.{Var}
@@ -31,3 +31,9 @@ first_cause None None None = None
 
 unfoldable pub refusal_in : Algebra → Option Refusal
 refusal_in pattern = first_cause (fault_in pattern) (pattern_number pattern) (cross_in pattern)
+
+-- the variable that a refusal names, if it names one, is below n
+abbrev pub NamesBelow : ℕ → Refusal → Type 0
+NamesBelow n (refusals.NotWellDesigned optional var) = var.0 < n
+NamesBelow n (refusals.ThreePlaces number) = Unit {0}
+NamesBelow n (refusals.CrossPlace var) = var.0 < n

@@ -7,9 +7,11 @@ use Rattle.alg_model.specs.Query.{AbstractQuery}
 use Rattle.nt_read.specs.scanning.Lines.{first_bad, lines_of, triples_of}
 use Rattle.sparql_parse.specs.computed.Reading.{query_reading}
 use Rattle.sparql_parse.specs.declared.fault.QueryFault.{QueryFault}
+use Rattle.well_designed.specs.Computed.{refusal_in}
+use Rattle.well_designed.specs.declared.refusals.Refusal.{Refusal}
 use Rattle.bm_world.specs.Meanings.{Files}
 use Rattle.bm_top.specs.Command.{Request, ask, request_of}
-use Rattle.bm_top.specs.Lines.{max_data_bytes, max_query_bytes, usage_line, read_fault_line, limit_line, bad_line_line, fault_line}
+use Rattle.bm_top.specs.Lines.{max_data_bytes, max_query_bytes, usage_line, read_fault_line, limit_line, bad_line_line, fault_line, pattern_line}
 use Rattle.bm_top.specs.Tsv.{tsv_text}
 use Rattle.bm_top.specs.Verdict.{Verdict, answered, refused}
 
@@ -24,10 +26,15 @@ reading_file name limit (Some bytes) next = within name limit bytes next
 abbrev pub reading : Files → List ℕ → ℕ → (List ℕ → Verdict) → Verdict
 reading files name limit next = reading_file name limit (get files name) next
 
--- what was read as a query is answered over the triples of some lines
+-- a query is refused, or answered over the triples of some lines
+abbrev pub accepting : List (List ℕ) → AbstractQuery → Option Refusal → Verdict
+accepting lines query (Some refusal) = refused 3 (pattern_line query.names refusal)
+accepting lines query None = answered (tsv_text query (answers_to query (graph_of (triples_of lines))))
+
+-- what was read as a query
 abbrev pub answering : List (List ℕ) → Result AbstractQuery QueryFault → Verdict
 answering lines (Err fault) = refused 3 (fault_line fault)
-answering lines (Ok query) = answered (tsv_text query (answers_to query (graph_of (triples_of lines))))
+answering lines (Ok query) = accepting lines query (refusal_in query.pattern)
 
 abbrev pub deciding : Option ℕ → List (List ℕ) → Result AbstractQuery QueryFault → Verdict
 deciding (Some line) lines reading = refused 2 (bad_line_line line)
