@@ -4,9 +4,10 @@
     bench/random_queries.py PROGRAM [COUNT [SEED]]
 
 PROGRAM is the built `bitmat`. Each of COUNT rounds (1000 where none is said) makes some N-Triples and a query: groups,
-nested and OPTIONAL ones, blocks with `;` and `,`, terms in several spellings, `*` or variables, DISTINCT or not. The
-evaluator here goes by the query's tree, from which its text was made, so it shares nothing with the program: neither a
-parser nor an algebra. The first difference is printed whole and ends the run with status 1."""
+nested and OPTIONAL ones, blocks with `;` and `,`, terms in several spellings, `*` or variables, DISTINCT or not. Some are
+not well designed, or have variables at places that are not answered. The evaluator here goes by the query's tree, from
+which its text was made, so it shares nothing with the program: neither a parser nor an algebra. It tells the line of a
+refusal too. The first difference is printed whole and ends the run with status 1."""
 import os
 import random
 import subprocess
@@ -19,6 +20,7 @@ PREDICATES = ["<urn:p>", "<urn:q>"]
 NUMBER, TRUE = f'"5"^^<{XSD}integer>', f'"true"^^<{XSD}boolean>'
 LITERALS = ['"1"', '"a\\tb"', '"x"@en', NUMBER, TRUE]
 NAMES = ["x", "y", "z", "w"]
+PREDICATE_NAMES = ["p", "q"]
 
 # other spellings in a query, where `xsd:` and `u:` are declared
 SPELLINGS = {
@@ -40,18 +42,23 @@ def make_data(pick):
     return triples, "".join(lines)
 
 
-def make_node(pick, terms, variables):
+def make_node(pick, terms, names, variables):
     """A variable as its name, or a term as its text; a blank node stands in data alone."""
     if pick.random() < variables:
-        return "?" + pick.choice(NAMES)
+        return "?" + pick.choice(names)
     return pick.choice([term for term in terms if not term.startswith("_:")])
 
 
+def make_triple(pick):
+    """A triple pattern. Few have three variables, and few predicates a variable that nodes have too."""
+    subject, obj = make_node(pick, NODES, NAMES, 0.85), make_node(pick, NODES + LITERALS, NAMES, 0.85)
+    both = subject.startswith("?") and obj.startswith("?")
+    names = NAMES if pick.random() < 0.05 else PREDICATE_NAMES
+    return subject, make_node(pick, PREDICATES, names, 0.03 if both else 0.5), obj
+
+
 def make_block(pick):
-    return [
-        (make_node(pick, NODES, 0.85), make_node(pick, PREDICATES, 0.3), make_node(pick, NODES + LITERALS, 0.85))
-        for _ in range(pick.choice([1, 1, 2, 2, 3]))
-    ]
+    return [make_triple(pick) for _ in range(pick.choice([1, 1, 2, 2, 3]))]
 
 
 def make_group(pick, depth):
@@ -111,6 +118,46 @@ def names_in(group, names):
     return names
 
 
+def lay_out(group, triples, optionals):
+    """Puts the triple patterns of a group after those before, and its OPTIONALs, in the order of the text: where their
+    left side begins, where it ends, and where the right side does."""
+    first = len(triples)
+    for kind, part in group:
+        if kind == "block":
+            triples.extend(part)
+            continue
+        middle, place = len(triples), len(optionals)
+        if kind == "OPTIONAL":
+            optionals.append(None)
+        lay_out(part, triples, optionals)
+        if kind == "OPTIONAL":
+            optionals[place] = (first, middle, len(triples))
+
+
+def variables_of(triples):
+    return {node[1:] for triple in triples for node in triple if node.startswith("?")}
+
+
+def refusal(group, numbers):
+    """The line of a query that is refused, or None. Variables have their place in `numbers` as their number."""
+    triples, optionals = [], []
+    lay_out(group, triples, optionals)
+    for number, (first, middle, last) in enumerate(optionals, 1):
+        outside = variables_of(triples[:first] + triples[last:])
+        offending = variables_of(triples[middle:last]) & outside - variables_of(triples[first:middle])
+        if offending:
+            name = min(offending, key=numbers.index)
+            return f"query refused: not well designed: optional {number}, variable ?{name}\n"
+    for number, triple in enumerate(triples, 1):
+        if all(node.startswith("?") for node in triple):
+            return f"query refused: three variables in pattern {number}\n"
+    crossing = {p[1:] for _, p, _ in triples if p.startswith("?")} & variables_of([(s, o) for s, _, o in triples])
+    if crossing:
+        name = min(crossing, key=numbers.index)
+        return f"query refused: variable ?{name} at predicate and node places\n"
+    return None
+
+
 def solutions(block, triples):
     """The mappings that make each pattern of the block a triple."""
     found = [{}]
@@ -147,41 +194,46 @@ def evaluate(group, triples):
 
 
 def make_round(pick):
-    """Data, a query, and what is to be printed."""
+    """Data, a query, the line of its refusal, and what is to be printed."""
     triples, data = make_data(pick)
     group = make_group(pick, 3)
     star, distinct = pick.random() < 0.4, pick.random() < 0.4
-    named = [pick.choice(NAMES) for _ in range(pick.choice([1, 1, 2, 3]))]
+    named = [pick.choice(NAMES + PREDICATE_NAMES) for _ in range(pick.choice([1, 1, 2, 3]))]
     columns = names_in(group, []) if star else list(dict.fromkeys(named))
     query = f"PREFIX u: <urn:other> prefix xsd: <{XSD}>\nPREFIX u: <urn:> # replaces the first\nSELECT "
     query += "DISTINCT " if distinct else ""
     query += "*" if star else " ".join(pick.choice("?$") + name for name in named)
     query += pick.choice([" ", " WHERE "]) + group_text(pick, group)
+    refused = refusal(group, names_in(group, [] if star else list(dict.fromkeys(named))))
+    if refused:
+        return data, query, refused, "", 0
     rows = [tuple(row.get(name) for name in columns) for row in evaluate(group, triples)]
     rows = list(set(rows)) if distinct else rows
     rows.sort(key=lambda row: [(cell is not None, (cell or "").encode()) for cell in row])
     lines = ["\t".join("?" + name for name in columns)] + ["\t".join(cell or "" for cell in row) for row in rows]
-    return data, query, "".join(line + "\n" for line in lines), len(rows)
+    return data, query, "", "".join(line + "\n" for line in lines), len(rows)
 
 
 def main():
     program = os.path.abspath(sys.argv[1])
     count = int(sys.argv[2]) if len(sys.argv) > 2 else 1000
     pick = random.Random(int(sys.argv[3]) if len(sys.argv) > 3 else 1)
-    rows = 0
+    rows = refusals = 0
     with tempfile.TemporaryDirectory() as folder:
         for _ in range(count):
-            data, query, wanted, some = make_round(pick)
+            data, query, refused, wanted, some = make_round(pick)
             rows += some
+            refusals += bool(refused)
             for name, text in [("d", data), ("q", query)]:
                 with open(os.path.join(folder, name), "w") as file:
                     file.write(text)
             run = subprocess.run([program, "ask", "d", "q", "tsv"], cwd=folder, capture_output=True)
-            if run.returncode or run.stdout.decode() != wanted:
+            status = 3 if refused else 0
+            if (run.returncode, run.stderr.decode(), run.stdout.decode()) != (status, refused, wanted):
                 got = run.stdout.decode() + run.stderr.decode()
-                print(f"data\n{data}query\n{query}\nwanted\n{wanted}got status {run.returncode}\n{got}")
+                print(f"data\n{data}query\n{query}\nwanted\n{refused}{wanted}got status {run.returncode}\n{got}")
                 return 1
-    print(f"{count} queries, {rows} rows, no difference")
+    print(f"{count} queries, {refusals} refused, {rows} rows, no difference")
     return 0
 
 

@@ -1,5 +1,5 @@
 -- The verdict once both files have been read.
-use Rattle.std.proofs.Common.{◌≡◌, ◌≢◌, ℕ, List, None, Ok, Err, inl, inr, ap}
+use Rattle.std.proofs.Common.{◌≡◌, ◌≢◌, ℕ, List, None, Ok, Err, inl, inr, sym, ◌∙◌, ap}
 use Rattle.bm_term.specs.Graph.{graph_of}
 use Rattle.alg_model.specs.declared.query.Query.{Query}
 use Rattle.alg_model.specs.Answers.{answers_of}
@@ -9,13 +9,17 @@ use Rattle.nt_read.specs.declared.lines.FeedFault.TheVariants as feed_faults
 use Rattle.sparql_parse.specs.computed.Reading.{query_reading, IsMemoryOr}
 use Rattle.sparql_parse.specs.declared.fault.QueryFault.{QueryFault}
 use Rattle.sparql_parse.specs.declared.fault.QueryFault.TheVariants as query_faults
-use Rattle.bm_top.specs.steps.Decide.{IsDecided, from_data, from_query}
+use Rattle.bm_top.specs.declared.decide.Undecided.{Undecided}
+use Rattle.bm_top.specs.declared.decide.Undecided.TheVariants as undecided
+use Rattle.bm_top.specs.steps.Decide.{IsAcceptance, IsDecided, from_data, from_query}
+use Rattle.alg_model.specs.Pattern.{algebra_of}
+use Rattle.well_designed.specs.Computed.{refusal_in}
 use Rattle.nt_read.specs.scanning.Lines.{first_bad, lines_of, triples_of}
 use Rattle.bm_top.specs.Lines.{fault_line}
 use Rattle.bm_top.specs.steps.Data.{IsDataOf}
 use Rattle.bm_top.specs.Tsv.{tsv_text}
 use Rattle.bm_top.specs.Verdict.{answered, refused}
-use Rattle.bm_top.specs.steps.VerdictOf.{answering, deciding, decided}
+use Rattle.bm_top.specs.steps.VerdictOf.{accepting, answering, deciding, decided}
 
 -- the data was refused
 pub decided-data : (bytes text : List ℕ) (fault : FeedFault) → IsDataOf bytes (Err fault) → IsDecided (decided bytes text) (Err (from_data fault))
@@ -46,6 +50,14 @@ decided-query bytes text (query_faults.TooManyGroups at) good h = decided-fault 
 decided-query bytes text (query_faults.TooDeep at) good h = decided-fault bytes text (query_faults.TooDeep at) good (told text (query_faults.TooDeep at) (λ e. absurd (cc)) h)
 
 -- both were taken
-pub decided-answered : (bytes text : List ℕ) (query : Query) → first_bad bytes ≡ None → query_reading text ≡ Ok (abstract_of query) → decided bytes text ≡ answered (tsv_text (abstract_of query) (answers_of query (graph_of (triples_of (lines_of bytes)))))
+pub decided-answered : (bytes text : List ℕ) (query : Query) → first_bad bytes ≡ None → query_reading text ≡ Ok (abstract_of query) → refusal_in (algebra_of query.pattern) ≡ None → decided bytes text ≡ answered (tsv_text (abstract_of query) (answers_of query (graph_of (triples_of (lines_of bytes)))))
 unfolding decided
-decided-answered bytes text query good h = rw good (ap (answering (lines_of bytes)) h)
+decided-answered bytes text query good h accepted = rw good (ap (answering (lines_of bytes)) h ∙ ap (accepting (lines_of bytes) (abstract_of query)) accepted)
+
+-- the pattern of the query was refused
+pub decided-refused : (bytes text : List ℕ) (query : Query) (why : Undecided) → first_bad bytes ≡ None → query_reading text ≡ Ok (abstract_of query) → IsAcceptance (abstract_of query) (Err why) → IsDecided (decided bytes text) (Err why)
+unfolding decided
+decided-refused bytes text query (undecided.BadLine line) good h is = absurd is
+decided-refused bytes text query (undecided.Query refusal) good h (cause, refuses, line) =
+    rw good (ap (answering (lines_of bytes)) h ∙ ap (accepting (lines_of bytes) (abstract_of query)) refuses ∙ ap (refused 3) (sym line))
+decided-refused bytes text query undecided.Memory good h is = tt

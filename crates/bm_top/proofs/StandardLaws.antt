@@ -3,6 +3,7 @@ use Rattle.std.proofs.Common.{◌≡◌, ◌≢◌, ◌↔◌, inl, inr, ℕ, �
 use Rattle.std.specs.FinMap.{get}
 use Rattle.std.proofs.lemmas.Bool.{le-ltb, cases_lt}
 use Rattle.std.proofs.lemmas.Grind.{common_steps}
+use Rattle.std.proofs.lemmas.List.Elements.{All-weaker}
 use Rattle.bm_term.specs.declared.triple.Triple.{Triple}
 use Rattle.bm_term.specs.Graph.{triple_cmp, IsGraph, graph_of}
 use Rattle.bm_term.proofs.Sets.{IsSetOf-set_of}
@@ -14,21 +15,28 @@ use Rattle.nt_read.proofs.FirstBad.{first_bad-found, first_bad-none}
 use Rattle.nt_read.proofs.SpelledTriples.{spelled-triples_of}
 use Rattle.alg_model.specs.Answers.{answers_to}
 use Rattle.alg_model.specs.Query.{AbstractQuery}
+use Rattle.alg_model.specs.Pattern.{HasVarsBelow, vars_of}
+use Rattle.alg_model.specs.VarSet.{PatternFits}
+use Rattle.alg_model.proofs.VarSets.{pattern_fits}
 use Rattle.sparql_parse.specs.declared.fault.QueryFault.{QueryFault}
 use Rattle.sparql_parse.specs.computed.Reading.{query_reading}
+use Rattle.sparql_parse.specs.Denotes.{Denotes}
+use Rattle.sparql_parse.proofs.DenotedLimits.{denoted-names, denoted-pattern}
 use Rattle.sparql_parse.proofs.DenotingLaws.{reading-denotes, denotes-reading, reading-is_fault, fault-reading}
+use Rattle.well_designed.specs.declared.refusals.Refusal.{Refusal}
+use Rattle.well_designed.specs.Computed.{refusal_in}
+use Rattle.well_designed.specs.Refusals.{IsRefused}
+use Rattle.well_designed.proofs.ComputedRefusal.{refusal_in-accepted, refusal_in-refused}
 use Rattle.bm_world.specs.declared.world.Faults.{Faults}
 use Rattle.bm_world.specs.Meanings.{Files, Meanings}
 use Rattle.bm_world.specs.World.{Step}
-use Rattle.bm_top.specs.declared.refusal.QueryRefusal.{QueryRefusal}
-use Rattle.bm_top.specs.declared.refusal.QueryRefusal.TheVariants.{Fault}
 use Rattle.bm_top.specs.Command.{Request, ask, request_of}
-use Rattle.bm_top.specs.Lines.{max_data_bytes, max_query_bytes, usage_line, read_fault_line, limit_line, bad_line_line, query_line, fault_line}
+use Rattle.bm_top.specs.Lines.{max_data_bytes, max_query_bytes, usage_line, read_fault_line, limit_line, bad_line_line, fault_line, pattern_line}
 use Rattle.bm_top.specs.Tsv.{tsv_text}
 use Rattle.bm_top.specs.Run.{IsComplete, Outputs, Prints}
-use Rattle.bm_top.specs.Standard.{AreNTriples, IsAnswer, IsBadData, IsRefusal, IsRefusedFor, IsDecidedBy, missing, too_long, read, IsAnswerOrRefusal, bad_data, bad_query, answer, IsAskVerdict, IsVerdict, usage, asks, Asks}
+use Rattle.bm_top.specs.Standard.{AreNTriples, IsAnswer, IsBadData, IsRefusal, IsRefusedText, has_fault, has_pattern, IsDecidedBy, missing, too_long, read, IsAnswerOrRefusal, bad_data, bad_query, answer, IsAskVerdict, IsVerdict, usage, asks, Asks}
 use Rattle.bm_top.specs.Verdict.{Verdict, answered, refused}
-use Rattle.bm_top.specs.steps.VerdictOf.{within, reading_file, reading, deciding, decided, query_verdict, request_verdict, verdict_at, verdict_of}
+use Rattle.bm_top.specs.steps.VerdictOf.{accepting, within, reading_file, reading, deciding, decided, query_verdict, request_verdict, verdict_at, verdict_of}
 
 -- data without a bad line, and its triples
 record IsRead (bytes : List ℕ) (triples : List Triple) : Type 0 where
@@ -65,7 +73,9 @@ answer-decided : (bytes text printed : List ℕ) → IsAnswer bytes text printed
 answer-decided bytes text printed is =
     let spelled = triples-read bytes is.triples is.are_triples in
     let same : is.graph ≡ graph_of is.triples = (graph-is is.triples is.graph).0 is.is_graph in
+    let none = (refusal_in-accepted is.query.pattern (denoted-fits text is.query is.denoted)).1 is.accepted in
     decided-by bytes text None (Ok is.query) spelled.none (denotes-reading text is.query is.denoted)
+    ∙ ap (accepting (lines_of bytes) is.query) none
     ∙ ap (λ ts. answered (answer_text is.query ts)) (sym spelled.are)
     ∙ ap (λ graph. answered (tsv_text is.query (answers_to is.query graph))) (sym same)
     ∙ ap answered (sym is.is_text)
@@ -75,40 +85,68 @@ bad_line-decided bytes text line is =
     decided-by bytes text (Some is.number) (query_reading text) ((first_bad-found bytes is.number).1 is.is_bad) refl
     ∙ ap (refused 2) (sym is.is_line)
 
-refused-decided : (bytes text line : List ℕ) (triples : List Triple) (refusal : QueryRefusal) → AreNTriples bytes triples → IsRefusedFor text refusal → line ≡ query_line refusal → decided bytes text ≡ refused 3 line
-refused-decided bytes text line triples (Fault fault) are is is_line =
+-- the pattern of a query that a text denotes has variables below 64
+denoted-fits : (text : List ℕ) (query : AbstractQuery) → Denotes text query → PatternFits query.pattern
+denoted-fits text query is =
+    let few = denoted-names text query is in
+    let below : HasVarsBelow 64 query.pattern = All-weaker (λ var. var < length query.names) (λ var. var < 64) (λ var low. omega arith) (vars_of query.pattern) (denoted-pattern text query is).vars_below in
+    pattern_fits query.pattern below
+
+-- a query is refused as its pattern is
+pattern-decided : (bytes text : List ℕ) (query : AbstractQuery) (refusal : Refusal) → first_bad bytes ≡ None → Denotes text query → IsRefused query.pattern refusal → decided bytes text ≡ refused 3 (pattern_line query.names refusal)
+pattern-decided bytes text query refusal good is refuses =
+    decided-by bytes text None (Ok query) good (denotes-reading text query is)
+    ∙ ap (accepting (lines_of bytes) query) ((refusal_in-refused query.pattern (denoted-fits text query is) refusal).1 refuses)
+
+refused-decided : (bytes text line : List ℕ) (triples : List Triple) → AreNTriples bytes triples → IsRefusedText text line → decided bytes text ≡ refused 3 line
+refused-decided bytes text line triples are (has_fault fault is is_line) =
     decided-by bytes text None (Err fault) (triples-read bytes triples are).none (fault-reading text fault is)
+    ∙ ap (refused 3) (sym is_line)
+refused-decided bytes text line triples are (has_pattern query refusal is refuses is_line) =
+    pattern-decided bytes text query refusal (triples-read bytes triples are).none is refuses
     ∙ ap (refused 3) (sym is_line)
 
 refusal-decided : (bytes text line : List ℕ) → IsRefusal bytes text line → decided bytes text ≡ refused 3 line
-refusal-decided bytes text line is = refused-decided bytes text line is.triples is.refusal is.are_triples is.is_refused is.is_line
+refusal-decided bytes text line is = refused-decided bytes text line is.triples is.are_triples is.is_refused
 
 -- what decides, both ways
 
-answer-read : (bytes text : List ℕ) (query : AbstractQuery) → first_bad bytes ≡ None → query_reading text ≡ Ok query → IsAnswer bytes text (answer_text query (triples_of (lines_of bytes)))
-answer-read bytes text query none is = record {
+answer-read : (bytes text : List ℕ) (query : AbstractQuery) → first_bad bytes ≡ None → query_reading text ≡ Ok query → refusal_in query.pattern ≡ None → IsAnswer bytes text (answer_text query (triples_of (lines_of bytes)))
+answer-read bytes text query none is accepted = record {
   triples = triples_of (lines_of bytes);
   graph = graph_of (triples_of (lines_of bytes));
   query = query;
   are_triples = read-triples bytes none;
   is_graph = (graph-is (triples_of (lines_of bytes)) (graph_of (triples_of (lines_of bytes)))).1 refl;
   denoted = reading-denotes text query is;
+  accepted = (refusal_in-accepted query.pattern (denoted-fits text query (reading-denotes text query is))).0 accepted;
   is_text = refl;
 }
 
 refusal-read : (bytes text : List ℕ) (fault : QueryFault) → first_bad bytes ≡ None → query_reading text ≡ Err fault → IsRefusal bytes text (fault_line fault)
 refusal-read bytes text fault none is = record {
   triples = triples_of (lines_of bytes);
-  refusal = Fault fault;
   are_triples = read-triples bytes none;
-  is_refused = reading-is_fault text fault is;
-  is_line = refl;
+  is_refused = has_fault fault (reading-is_fault text fault is) refl;
 }
+
+pattern-read : (bytes text : List ℕ) (query : AbstractQuery) (refusal : Refusal) → first_bad bytes ≡ None → query_reading text ≡ Ok query → refusal_in query.pattern ≡ Some refusal → IsRefusal bytes text (pattern_line query.names refusal)
+pattern-read bytes text query refusal none is refuses =
+    let denoted = reading-denotes text query is in
+    record {
+      triples = triples_of (lines_of bytes);
+      are_triples = read-triples bytes none;
+      is_refused = has_pattern query refusal denoted ((refusal_in-refused query.pattern (denoted-fits text query denoted) refusal).0 refuses) refl;
+    }
+
+accepting-is : (bytes text : List ℕ) (query : AbstractQuery) (refusal : Option Refusal) → first_bad bytes ≡ None → query_reading text ≡ Ok query → refusal_in query.pattern ≡ refusal → IsAnswerOrRefusal bytes text (accepting (lines_of bytes) query refusal)
+accepting-is bytes text query (Some refusal) none is refuses = bad_query (pattern_line query.names refusal) (pattern-read bytes text query refusal none is refuses) refl
+accepting-is bytes text query None none is accepted = answer (answer_text query (triples_of (lines_of bytes))) (answer-read bytes text query none is accepted) refl
 
 deciding-is : (bytes text : List ℕ) (bad : Option ℕ) (result : Result AbstractQuery QueryFault) → first_bad bytes ≡ bad → query_reading text ≡ result → IsAnswerOrRefusal bytes text (deciding bad (lines_of bytes) result)
 deciding-is bytes text (Some n) result is found = bad_data (bad_line_line n) (record { number = n; is_bad = (first_bad-found bytes n).0 is; is_line = refl }) refl
 deciding-is bytes text None (Err fault) is found = bad_query (fault_line fault) (refusal-read bytes text fault is found) refl
-deciding-is bytes text None (Ok query) is found = answer (answer_text query (triples_of (lines_of bytes))) (answer-read bytes text query is found) refl
+deciding-is bytes text None (Ok query) is found = accepting-is bytes text query (refusal_in query.pattern) is found refl
 
 decided-is : (bytes text : List ℕ) → IsAnswerOrRefusal bytes text (decided bytes text)
 unfolding decided

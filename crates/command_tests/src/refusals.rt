@@ -224,6 +224,20 @@ SELECT * { ?x <urn:p> ?y, u: } => unknown prefix at byte 26
 SELECT * { ?x <urn:p> ?y FILTER(u:a) } => unsupported FILTER at byte 25
 "#;
 
+/// Patterns that are not well designed, and variables at places that are not answered. A fault of the text comes first.
+const PATTERNS: &str = r#"SELECT * { ?x <urn:a> ?u OPTIONAL { ?x <urn:b> ?y } ?y <urn:c> ?v } => not well designed: optional 1, variable ?y
+SELECT * { OPTIONAL { ?y <urn:p> ?z } ?x <urn:p> ?y } => not well designed: optional 1, variable ?y
+SELECT ?v ?u { ?x <urn:p> ?y OPTIONAL { ?u <urn:p> ?v } OPTIONAL { ?v <urn:p> ?u } } => not well designed: optional 1, variable ?v
+SELECT * { ?x <urn:p> ?y OPTIONAL { ?y <urn:p> ?z OPTIONAL { ?z <urn:p> ?x } } } => not well designed: optional 2, variable ?x
+SELECT * { { ?x <urn:p> ?y OPTIONAL { ?y <urn:p> ?long } } ?u ?p ?long } => not well designed: optional 1, variable ?long
+SELECT * { ?s ?p ?o } => three variables in pattern 1
+SELECT * { ?s <urn:p> ?o ; <urn:q> ?p , ?q ; ?r ?t } => three variables in pattern 4
+SELECT * { ?s ?p ?o . ?p <urn:p> ?o } => three variables in pattern 1
+SELECT * { ?s ?p <urn:o> . <urn:a> <urn:b> ?p } => variable ?p at predicate and node places
+SELECT ?q ?p { <urn:a> ?p <urn:o> OPTIONAL { ?p ?q <urn:o> OPTIONAL { ?q <urn:p> <urn:o> } } } => variable ?q at predicate and node places
+SELECT * { ?s ?p ?o } LIMIT 1 => unsupported LIMIT at byte 22
+"#;
+
 const HIDDEN_FAULTS: [(&str, &str); 5] = [
     ("SELECT *\n", "syntax at byte 9"),
     ("SELECT * # {}\r\n ", "syntax at byte 16"),
@@ -249,6 +263,11 @@ fn faults_of_the_grammar(rt: HostRuntime) -> Result<(), Fail> {
 #[test]
 fn what_is_not_supported(rt: HostRuntime) -> Result<(), Fail> {
     check_refusals(&rt, rt.alloc(), UNSUPPORTED)
+}
+
+#[test]
+fn patterns_that_are_refused(rt: HostRuntime) -> Result<(), Fail> {
+    check_refusals(&rt, rt.alloc(), PATTERNS)
 }
 
 #[test]
