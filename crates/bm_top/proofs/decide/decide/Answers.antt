@@ -2,7 +2,7 @@ use Rattle.std.proofs.Common.{ℕ, List, ◌∙◌, ap, subst}
 use Rattle.std.proofs.lemmas.Result.{err_from_is_err_and}
 use Rattle.bm_top.specs.Verdict.{answered}
 use Rattle.bm_top.specs.steps.Data.{IsDataOf}
-use Rattle.bm_top.proofs.Deciding.{decided-data, decided-query, decided-answered}
+use Rattle.bm_top.proofs.Deciding.{decided-data, decided-query, decided-refused, decided-answered}
 use Rattle.bm_top.proofs.decide.decide.Goals as goal
 
 pub returns-in_err-triples : goal.returns-in_err-triples
@@ -21,5 +21,5 @@ returns-in_err-query c =
 pub returns : goal.returns
 returns c =
     let read = rw c.deref.ensures.value at c.in_ok-triples.ensures in
-    decided-answered c.args.data.items c.args.query.now c.in_ok-query.query read.0 c.in_ok-query.ensures.reads
+    decided-answered c.args.data.items c.args.query.now c.in_ok-query.query read.0 c.in_ok-query.ensures.reads c.in_ok.ensures
     ∙ ap answered (cc (c.in_ok-tsv.ensures, c.deref-3.ensures.value, c.in_ok-answers.ensures, c.deref-2.ensures.value, c.in_ok-graph.ensures.graph, read.1))
