@@ -1,5 +1,5 @@
 -- The lines that the program writes to standard error, and the limits that they name. They are this project's own.
-use Rattle.std.specs.Prelude.{ℕ, List, [], ◌++◌, codes, decimal, Option, None, Some, slice_index_or}
+use Rattle.std.specs.Prelude.{ℕ, List, [], ◌++◌, codes, decimal, Option, None, Some, slice_index_or, string_bytes}
 use Rattle.sparql_parse.specs.declared.fault.QueryFault.{QueryFault}
 use Rattle.sparql_parse.specs.Causes.{cause_text, byte_of}
 use Rattle.well_designed.specs.declared.refusals.Refusal.{Refusal as PatternRefusal}
@@ -65,9 +65,9 @@ pattern_line names (patterns.CrossPlace var) = cross_place_line (slice_index_or 
 -- the line of a refusal of the code, which has the names themselves
 abbrev pub query_line : QueryRefusal → List ℕ
 query_line (queries.Fault fault) = fault_line fault
-query_line (queries.NotWellDesigned optional name) = not_well_designed_line optional name.items
+query_line (queries.NotWellDesigned optional name) = not_well_designed_line optional (string_bytes name)
 query_line (queries.ThreePlaces pattern) = three_places_line pattern
-query_line (queries.CrossPlace name) = cross_place_line name.items
+query_line (queries.CrossPlace name) = cross_place_line (string_bytes name)
 
 -- the status of a refusal, and its line
 abbrev pub refusal_status : Refusal → ℕ

@@ -1,6 +1,6 @@
 //! Whether a query is accepted, whatever the data: its pattern is well designed, and its variables are at places that are
 //! answered.
-ghost use Rattle.std.specs.Prelude.{◌≡◌, ◌<◌, length, slice_index_or, IfOk};
+ghost use Rattle.std.specs.Prelude.{◌≡◌, ◌<◌, length, slice_index_or, string_bytes, IfOk};
 ghost use Rattle.alg_model.specs.Limits.{KeepsLimits};
 ghost use Rattle.alg_model.specs.Query.{abstract_of};
 ghost use Rattle.bm_top.specs.Lines.{pattern_line, query_line};
@@ -43,9 +43,9 @@ fn named(alloc: Global, names: &Names, refusal: Refusal) -> Result<QueryRefusal,
     }
 }
 
-fn name_of(alloc: Global, names: &Names, var: Var) -> Result<Vec<u8>, AllocError>
+fn name_of(alloc: Global, names: &Names, var: Var) -> Result<String, AllocError>
     requires { var.0 < length names.now }
-    ensures { IfOk result (λ name. name.items ≡ slice_index_or names.now var.0 []) }
+    ensures { IfOk result (λ name. string_bytes name ≡ slice_index_or names.now var.0 []) }
 {
-    names.get(var.0 as usize).to_vec(alloc)
+    String::from_str(alloc, names.get(var.0 as usize))
 }

@@ -7,11 +7,11 @@ pub(crate) enum QueryRefusal {
     Fault { fault: QueryFault },
     /// The pattern is not well designed: the number, from 1, of the first OPTIONAL that fails, and the name of the least
     /// variable that offends there.
-    NotWellDesigned { optional: u8, name: Vec<u8> },
+    NotWellDesigned { optional: u8, name: String },
     /// A triple pattern has three variables: the least number of such a one, from 1.
     ThreePlaces { pattern: u16 },
     /// A variable is at a predicate place and at a node place: the name of the least such variable.
-    CrossPlace { name: Vec<u8> },
+    CrossPlace { name: String },
 }
 
 /// Why a command is refused, with what its line names.
