@@ -1,0 +1,6 @@
+//! Writes the rows of a query's result as tab-separated values or as JSON.
+#![tactic(auto)]
+
+mod form;
+
+pub use form::{Form, WriteEnd};
