@@ -1,1 +1,3 @@
 pub mod JsonLaws
+pub mod Encodings
+pub mod TermTexts
