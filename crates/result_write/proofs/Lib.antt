@@ -1,3 +1,4 @@
 pub mod JsonLaws
 pub mod Encodings
 pub mod TermTexts
+pub mod BufferLaws

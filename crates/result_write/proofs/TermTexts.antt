@@ -12,14 +12,17 @@ use Rattle.rdf_text.specs.Marks.{quotation_mark, greater_than}
 use Rattle.rdf_text.specs.Classes.{is_irichar, is_scalar, is_lower_letter, is_lower_alphanumeric, is_digit}
 use Rattle.rdf_text.specs.Repetition.{Star}
 use Rattle.rdf_text.specs.Names.{IsSubtag, IsLanguageTag}
-use Rattle.rdf_text.specs.Spelling.{escaped, unescaped}
+use Rattle.rdf_text.specs.Spelling.{escaped, unescaped, SpellsForm, IsBody}
 use Rattle.rdf_text.proofs.Unescaping.{unescaped-escaped}
 use Rattle.bm_term.specs.declared.term_parts.TermKind.{TermKind}
+use Rattle.bm_term.specs.declared.term_parts.TermKind.TheVariants.{Iri, Blank, Plain, Tagged, Typed}
+use Rattle.bm_term.specs.declared.term_parts.Parts.{Parts}
+use Rattle.bm_term.specs.Parts.{IsBodyOf, Shows, ArePartsOf}
 use Rattle.bm_term.specs.Canonical.{RdfTerm, iri, blank, plain, tagged, typed, IsTerm, kind_of, body_of, tail_of, canonical_chars, canonical_text}
 use Rattle.bm_term.proofs.TermScalars.{canonical_scalars}
 use Rattle.result_write.specs.TermText.{cut_at_last, in_brackets, literal_with, term_of_chars, term_with_text}
 use Rattle.result_write.specs.JsonResult.{term_members, string_member, term_json, cell_json}
-use Rattle.result_write.specs.held.Written.{strings_data, kind_members, kind_data}
+use Rattle.result_write.specs.held.Written.{is_literal, kind_data, value_of, term_data, cell_data}
 use Rattle.result_write.proofs.Encodings.{encoded, strings-written}
 
 -- a mark that is in a text
@@ -107,19 +110,66 @@ pub cell_json-is : (term : RdfTerm) → IsTerm term → cell_json (canonical_tex
 unfolding cell_json
 cell_json-is term is = ap (λ term. encode_utf8_all (term_json term)) (term_with_text-is term is)
 
--- the value of a term: the IRI, the label or the lexical form
-abbrev pub value_of : RdfTerm → List ℕ
-value_of (iri cs) = cs
-value_of (blank label) = label
-value_of (plain lexical) = lexical
-value_of (tagged lexical tag) = lexical
-value_of (typed lexical datatype) = lexical
-
 -- what is written for the parts of a term
-pub kind-written : (term : RdfTerm) → compact_text (kind_data (kind_of term) (encode_utf8_all (value_of term)) (encode_utf8_all (tail_of term))) ≡ encode_utf8_all (term_json term)
+term-written : (term : RdfTerm) → compact_text (term_data term) ≡ encode_utf8_all (term_json term)
 unfolding lib.Utf8.encode
-kind-written (iri cs) = strings-written (term_members (iri cs))
-kind-written (blank label) = strings-written (term_members (blank label))
-kind-written (plain lexical) = strings-written (term_members (plain lexical))
-kind-written (tagged lexical tag) = strings-written (term_members (tagged lexical tag))
-kind-written (typed lexical datatype) = strings-written (term_members (typed lexical datatype))
+term-written (iri cs) = strings-written (term_members (iri cs))
+term-written (blank label) = strings-written (term_members (blank label))
+term-written (plain lexical) = strings-written (term_members (plain lexical))
+term-written (tagged lexical tag) = strings-written (term_members (tagged lexical tag))
+term-written (typed lexical datatype) = strings-written (term_members (typed lexical datatype))
+
+-- so for the text of a term
+pub cell-written : (text : List ℕ) → compact_text (cell_data text) ≡ cell_json text
+unfolding cell_data cell_json
+cell-written text = term-written (term_with_text text)
+
+-- the object of a term by its parts
+module _ (text : List ℕ) (parts : Parts) (are : ArePartsOf text parts) where
+  abbrev term : RdfTerm
+  term = are.kind.canonical.term
+
+  shows : Shows parts term
+  shows = are.of_term term are.kind.canonical.is are.kind.canonical.spelled
+
+  same_term : term_with_text text ≡ term
+  same_term = ap term_with_text are.kind.canonical.spelled ∙ term_with_text-is term are.kind.canonical.is
+
+  module _ (value tail : List ℕ) (tail_is : tail ≡ parts.tail.now) where
+    from_value : value ≡ encode_utf8_all (value_of term) → kind_data parts.kind value tail ≡ cell_data text
+    unfolding cell_data
+    from_value is =
+        ap (λ kind. kind_data kind value tail) shows.kind
+        ∙ ap (λ value. kind_data (kind_of term) value tail) is
+        ∙ ap (λ tail. kind_data (kind_of term) (encode_utf8_all (value_of term)) tail) (tail_is ∙ shows.tail)
+        ∙ ap term_data (sym same_term)
+
+    other_value : (t : RdfTerm) → parts.body.now ≡ encode_utf8_all (body_of t) → is_literal (kind_of t) ≡ false → parts.body.now ≡ encode_utf8_all (value_of t)
+    other_value (iri cs) body e = body
+    other_value (blank label) body e = body
+    other_value (plain lexical) body e = absurd (cc)
+    other_value (tagged lexical tag) body e = absurd (cc)
+    other_value (typed lexical datatype) body e = absurd (cc)
+
+    -- the value of a term that is no literal is the body
+    pub other_data : value ≡ parts.body.now → is_literal parts.kind ≡ false → kind_data parts.kind value tail ≡ cell_data text
+    other_data is other = from_value (is ∙ other_value term shows.body (ap is_literal (sym shows.kind) ∙ other))
+
+    literal_value : ((lexical : List ℕ) → SpellsForm parts.body.now lexical → value ≡ encode_utf8_all lexical) → (t : RdfTerm) → IsTerm t → parts.body.now ≡ encode_utf8_all (body_of t) → is_literal (kind_of t) ≡ true → value ≡ encode_utf8_all (value_of t)
+    literal_value spelled (iri cs) is body e = absurd (cc)
+    literal_value spelled (blank label) is body e = absurd (cc)
+    literal_value spelled (plain lexical) is body e = spelled lexical (record { characters = is; spelled = body })
+    literal_value spelled (tagged lexical tag) is body e = spelled lexical (record { characters = is.0; spelled = body })
+    literal_value spelled (typed lexical datatype) is body e = spelled lexical (record { characters = is.0; spelled = body })
+
+    -- and that of a literal is the form which the body spells
+    pub literal_data : ((lexical : List ℕ) → SpellsForm parts.body.now lexical → value ≡ encode_utf8_all lexical) → is_literal parts.kind ≡ true → kind_data parts.kind value tail ≡ cell_data text
+    literal_data spelled literal = from_value (literal_value spelled term are.kind.canonical.is shows.body (ap is_literal (sym shows.kind) ∙ literal))
+
+-- a body of a literal spells a form
+pub literal_body : (kind : TermKind) (body : List ℕ) → IsBodyOf kind body → is_literal kind ≡ true → IsBody body
+literal_body Iri body is literal = absurd (cc)
+literal_body Blank body is literal = absurd (cc)
+literal_body Plain body is literal = is
+literal_body Tagged body is literal = is
+literal_body Typed body is literal = is

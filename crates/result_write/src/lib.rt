@@ -2,5 +2,7 @@
 #![tactic(auto)]
 
 mod form;
+mod json_term;
+mod pieces;
 
 pub use form::{Form, WriteEnd};
