@@ -17,6 +17,11 @@ abbrev pub strings_data : List (List ℕ × List ℕ) → Members
 strings_data [] = no_members
 strings_data (m ∷ ms) = member m.0 (string m.1) (strings_data ms)
 
+-- names as data
+abbrev pub names_data : List (List ℕ) → Items
+names_data [] = no_items
+names_data (name ∷ names) = item (string name) (names_data names)
+
 abbrev pub strings_object : List (List ℕ × List ℕ) → Data
 strings_object members = object (strings_data members)
 
