@@ -5,3 +5,6 @@ pub mod ColumnLaws
 pub mod RowLaws
 pub mod BufferLaws
 pub mod PieceLaws
+pub mod Joined
+pub mod MemberLaws
+pub mod Examples

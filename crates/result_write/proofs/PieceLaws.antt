@@ -1,5 +1,6 @@
 -- The pieces of a text joined are the text, and what stands at each place.
 use Rattle.std.proofs.Common.{◌≡◌, ℕ, zero, suc, ◌+◌, ◌-◌, ◌<◌, ◌≤◌, Bool, true, false, if◌then◌else◌, nat_lt, List, [], ◌∷◌, ◌++◌, codes, map, length, slice_index_or, get_or, Some, slice_get, refl, sym, ◌∙◌, ap, arith, append_assoc}
+use Rattle.std.proofs.lemmas.Bool.Decides.{nat_tests}
 use Rattle.std.specs.List.{concat, flat_map, join_with_byte}
 use Rattle.std.proofs.lemmas.List.{append-nil, get_or-map, length-map}
 use Rattle.alg_model.specs.declared.var.Var.{Var}
@@ -39,10 +40,14 @@ rows_joined columns [] = append-nil json_end
 rows_joined columns (row ∷ rows) = rows_behind columns (row_object columns row) rows
 
 -- the document, as it is put together
+regrouped : (names between joined : List ℕ) → (((names ++ 0x7D ∷ []) ++ comma ∷ (between ++ ((joined ++ 0x5D ∷ []) ++ 0x7D ∷ []))) ++ 0x7D ∷ []) ++ 0xA ∷ []
+    ≡ (names ++ 0x7D ∷ comma ∷ between) ++ (joined ++ 0x5D ∷ 0x7D ∷ 0x7D ∷ 0xA ∷ [])
+regrouped names between joined = simp append_assoc
+
 document_is : (names joined : List ℕ) → json_object ((codes "head", json_object ((codes "vars", names) ∷ [])) ∷ (codes "results", json_object ((codes "bindings", 0x5B ∷ (joined ++ 0x5D ∷ [])) ∷ [])) ∷ []) ++ 0xA ∷ []
     ≡ (codes "{\"head\":{\"vars\":" ++ (names ++ codes "},\"results\":{\"bindings\":[")) ++ (joined ++ json_end)
 unfolding short_escape
-document_is names joined = simp append_assoc
+document_is names joined = ap (λ rest. codes "{\"head\":{\"vars\":" ++ rest) (regrouped names (codes "\"results\":{\"bindings\":[") joined)
 
 -- the rows by the columns in the order of their names
 same_rows : (names : List (List ℕ)) (rows : List (Row (List ℕ))) → map (row_object (columns_by_name names)) rows ≡ map (row_json names) rows
@@ -59,8 +64,8 @@ json_pieces-are query rows =
 
 -- how many pieces there are
 length-row_pieces : (columns : List (List ℕ × ℕ)) (later : Bool) (rows : List (Row (List ℕ))) → length (row_pieces columns later rows) ≡ length rows + 1
-length-row_pieces columns later [] = refl
-length-row_pieces columns later (row ∷ rows) = ap suc (length-row_pieces columns true rows)
+length-row_pieces columns later [] = omega arith
+length-row_pieces columns later (row ∷ rows) = omega (arith, length-row_pieces columns true rows)
 
 pub length-json_pieces : (names : List (List ℕ)) (columns : List (List ℕ × ℕ)) (rows : List (Row (List ℕ))) → length (json_pieces names columns rows) ≡ length rows + 2
 unfolding json_pieces
@@ -82,7 +87,8 @@ row_piece_at columns (r ∷ rows) (suc k) row at = row_piece_at columns rows k r
 first_piece_at : (columns : List (List ℕ × ℕ)) (rows : List (Row (List ℕ))) (k : ℕ) (row : Row (List ℕ)) → slice_get rows k ≡ Some row → slice_index_or (row_pieces columns false rows) k [] ≡ row_piece (nat_lt 0 k) (row_object columns row)
 first_piece_at columns [] k row at = absurd (cc)
 first_piece_at columns (r ∷ rows) zero row at = let same : r ≡ row = cc in ap (row_object columns) same
-first_piece_at columns (r ∷ rows) (suc k) row at = row_piece_at columns rows k row at
+first_piece_at columns (r ∷ rows) (suc k) row at =
+    let later : nat_lt 0 (suc k) ≡ true = grind (arith, nat_tests) in rw later (row_piece_at columns rows k row at)
 
 pub json_row_at : (names : List (List ℕ)) (columns : List (List ℕ × ℕ)) (rows : List (Row (List ℕ))) (i k : ℕ) (row : Row (List ℕ)) → i ≡ k + 1 → slice_get rows k ≡ Some row → slice_index_or (json_pieces names columns rows) i [] ≡ row_piece (nat_lt 0 k) (row_object columns row)
 unfolding json_pieces
@@ -115,3 +121,7 @@ tsv_row_at names rows i k row is at = rw (is, add_one k) (tsv_row_of rows k row 
   where
     add_one : (k : ℕ) → k + 1 ≡ suc k
     add_one k = omega arith
+
+pub ruleset json_places = (length-json_pieces, json_first, json_row_at, json_last)
+
+pub ruleset tsv_places = (length-tsv_pieces, tsv_first, tsv_row_at)

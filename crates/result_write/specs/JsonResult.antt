@@ -1,10 +1,10 @@
 -- Results as JSON. SPARQL 1.1 Query Results JSON Format, sections 3.1 and 3.2. There is no white space, a line feed ends
 -- the text, and the members of an object stand in ascending byte order of their names.
-use Rattle.std.specs.Prelude.{ℕ, List, [], ◌∷◌, ◌++◌, map, codes, Option, None, slice_index_or}
+use Rattle.std.specs.Prelude.{◌≡◌, ℕ, false, List, [], ◌∷◌, ◌++◌, map, codes, Option, None, slice_index_or}
 use Rattle.std.specs.List.{enumerate_from, filter_map}
 use Rattle.std.specs.Option.{option_map}
 use Rattle.std.specs.declared.cmp.Ordering.{Ordering}
-use Rattle.std.specs.Ordering.{nat_cmp, ordering_then}
+use Rattle.std.specs.Ordering.{nat_cmp, ordering_then, is_lt}
 use Rattle.std.specs.Cmp.Lexicographic.{slice_cmp}
 use Rattle.std.specs.Str.{encode_utf8_all}
 use Rattle.rdf_text.specs.Marks.{line_feed}
@@ -55,6 +55,14 @@ bound_member row column = option_map (λ text. (column.0, cell_json text)) (slic
 -- the members of a row: one for each column that is bound, in ascending order of the names (section 3.2.1)
 abbrev pub row_members : List (List ℕ) → Row (List ℕ) → List Member
 row_members names row = filter_map (bound_member row) (columns_by_name names)
+
+-- the same in the order of the columns, for the law that no other member is there
+abbrev pub bound_members : List (List ℕ) → Row (List ℕ) → List Member
+bound_members names row = filter_map (bound_member row) (columns_of names)
+
+-- a member's name does not come before that of an earlier one
+abbrev pub IsNotBefore : Member → Member → Type 0
+IsNotBefore earlier later = is_lt (slice_cmp nat_cmp later.0 earlier.0) ≡ false
 
 unfoldable pub row_json : List (List ℕ) → Row (List ℕ) → List ℕ
 row_json names row = json_object (row_members names row)
