@@ -3,7 +3,7 @@ use Rattle.std.specs.Prelude.{ℕ, List, [], map, slice_index_or}
 use Rattle.alg_model.specs.declared.var.Var.{Var}
 use Rattle.alg_model.specs.Query.{AbstractQuery}
 
--- the name of a variable, without its mark
+-- the name of a variable, without its mark; empty where the names have none for it
 abbrev pub name_of : List (List ℕ) → Var → List ℕ
 name_of names var = slice_index_or names var.0 []
 

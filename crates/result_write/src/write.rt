@@ -1,8 +1,8 @@
 //! Prints results.
-ghost use Rattle.std.specs.Prelude.{◌≡◌, ◌<◌, All, length, map, string_bytes, IfOk};
+ghost use Rattle.std.specs.Prelude.{◌≡◌, map, string_bytes, IfOk};
 ghost use Rattle.alg_model.specs.Query.{abstract_of};
 ghost use Rattle.bm_world.specs.World.{Step};
-ghost use Rattle.result_write.specs.Columns.{column_names};
+ghost use Rattle.result_write.specs.Columns.{name_of, column_names};
 ghost use Rattle.result_write.specs.Printing.{Prints, HasWriteCause};
 ghost use Rattle.result_write.specs.ResultText.{result_text};
 ghost use Rattle.result_write.specs.Tsv.{tsv_text};
@@ -14,7 +14,7 @@ use crate::json_result::JsonParts;
 use crate::pieces::print_pieces;
 use crate::tsv::TsvLines;
 use crate::{Form, WriteEnd};
-use alg_model::Query;
+use alg_model::{Names, Query, Var};
 use answer_rows::TextRows;
 use bm_world::World;
 use std::alloc::{AllocError, Global};
@@ -32,7 +32,6 @@ pub fn write_rows<W: World>(
     rows: &TextRows<'_>,
     world: &mut W,
 ) -> Result<(), WriteEnd>
-    requires columns_have_names { All (λ column. column.0 < length query.now.names) query.now.columns }
     ensures step { Step (W.told world.old) (W.told world.new)
         (Prints (result_text form (abstract_of query.now) rows.now.rows) result) }
     ensures cause { HasWriteCause (W.faults world.old).writes (W.faults world.new).writes result }
@@ -51,7 +50,6 @@ pub(crate) fn write_by<W: World>(
     rows: &TextRows<'_>,
     world: &mut W,
 ) -> Result<(), WriteEnd>
-    requires columns_have_names { All (λ column. column.0 < length query.now.names) query.now.columns }
     ensures step { Step (W.told world.old) (W.told world.new)
         (Prints (result_text form (abstract_of query.now) rows.now.rows) result) }
     ensures cause { HasWriteCause (W.faults world.old).writes (W.faults world.new).writes result }
@@ -71,7 +69,6 @@ fn write_tsv<W: World>(
     rows: &TextRows<'_>,
     world: &mut W,
 ) -> Result<(), WriteEnd>
-    requires columns_have_names { All (λ column. column.0 < length query.now.names) query.now.columns }
     ensures step { Step (W.told world.old) (W.told world.new)
         (Prints (tsv_text (abstract_of query.now) rows.now.rows) result) }
     ensures cause { HasWriteCause (W.faults world.old).writes (W.faults world.new).writes result }
@@ -95,7 +92,6 @@ fn write_json<W: World>(
     rows: &TextRows<'_>,
     world: &mut W,
 ) -> Result<(), WriteEnd>
-    requires columns_have_names { All (λ column. column.0 < length query.now.names) query.now.columns }
     ensures step { Step (W.told world.old) (W.told world.new)
         (Prints (json_text (abstract_of query.now) rows.now.rows) result) }
     ensures cause { HasWriteCause (W.faults world.old).writes (W.faults world.new).writes result }
@@ -119,14 +115,25 @@ fn write_json<W: World>(
 
 /// The names of a query's columns.
 fn column_names(alloc: Global, query: &Query) -> Result<Vec<String>, AllocError>
-    requires columns_have_names { All (λ column. column.0 < length query.now.names) query.now.columns }
     ensures { IfOk result (λ names. map string_bytes names.items ≡ column_names (abstract_of query.now)) }
 {
     let columns = &query.columns;
     let mut names = Vec::new(alloc);
     for i in 0..columns.len() {
-        let name = query.names.get(columns.get(i).0 as usize);
+        let name = name_of(&query.names, columns.get(i));
         names.push(String::from_str(alloc, name)?)?;
     }
     Ok(names)
+}
+
+/// The name of a variable. One that has none is given the empty name.
+fn name_of(names: &Names, var: Var) -> &str
+    ensures { result.now ≡ name_of names.now var }
+{
+    let number = var.0 as usize;
+    if number < names.len() {
+        names.get(number)
+    } else {
+        ""
+    }
 }

@@ -1,6 +1,5 @@
 use Rattle.std.proofs.Common.{◌∷◌, ◌++◌, [], ◌∙◌, sym, ap, map, take, List, ℕ, string_bytes}
 use Rattle.std.proofs.lemmas.List.{map-append}
-use Rattle.std.proofs.lemmas.Option.{get_or_from_slice_get}
 use Rattle.result_write.specs.Columns.{name_of}
 use Rattle.result_write.proofs.Joined.{map-take_more}
 use Rattle.result_write.proofs.write.column_names.Goals as goal
@@ -13,5 +12,5 @@ loop-i-preserved c =
     let so_far = map (name_of names) (take c.loop-i.i columns) in
     ap (map string_bytes) c.in_ok-push.ensures.items ∙ map-append string_bytes c.loop-i.names.items (made ∷ [])
     ∙ ap (λ (done : List (List ℕ)). done ++ string_bytes made ∷ []) c.loop-i.invariant
-    ∙ ap (λ (name : List ℕ). so_far ++ name ∷ []) (c.in_ok-from_str.ensures.ok ∙ sym (get_or_from_slice_get names c.get.result.0 c.get-name.result.now [] c.get-name.ensures))
+    ∙ ap (λ (name : List ℕ). so_far ++ name ∷ []) (c.in_ok-from_str.ensures.ok ∙ c.name_of-name.ensures)
     ∙ sym (map-take_more (name_of names) columns c.loop-i.i c.get.result c.get.ensures)
