@@ -1,4 +1,4 @@
-ghost use Rattle.std.specs.Prelude.{◌≡◌, ◌<◌, ◌==◌, [], ◌∷◌, ◌++◌, length, position, slice_get, OnOk, OnErr, Some};
+ghost use Rattle.std.specs.Prelude.{◌≡◌, ◌<◌, ◌==◌, [], ◌∷◌, ◌++◌, length, position, slice_get, OnOk, OnErr, Some, string_bytes};
 ghost use Rattle.std.specs.Cmp.Lexicographic.{pointwise};
 
 use crate::{Pattern, Var};
@@ -15,19 +15,19 @@ pub struct Query {
     pub distinct: bool,
 }
 
-/// A list of names, each of them bytes.
+/// A list of names, each of them a text. It is seen as the list of their bytes.
 #[derive(Debug, Drop)]
 pub struct Names {
     alloc: Global,
-    names: Vec<Vec<u8>>,
+    names: Vec<String>,
 }
 
 impl Model for Names {
-    ghost use Rattle.std.specs.Prelude.{List, ℕ, map};
+    ghost use Rattle.std.specs.Prelude.{List, ℕ, map, string_bytes};
 
     ghost Value = { List (List ℕ) };
 
-    ghost view = { λ l. map (λ name. name.items) l.names.items };
+    ghost view = { λ l. map string_bytes l.names.items };
 }
 
 impl Names {
@@ -56,14 +56,14 @@ impl Names {
     }
 
     /// The i-th name from 0.
-    pub fn get(&self, i: usize) -> &[u8]
+    pub fn get(&self, i: usize) -> &str
         requires { i < length self.now }
         ensures { slice_get self.now i ≡ Some result.now }
     {
-        &self.names[i]
+        self.names[i].as_str()
     }
 
-    /// The first place of a name, if it is there.
+    /// The first place of the name that has these bytes, if it is there.
     pub fn position(&self, name: &[u8]) -> Option<usize>
         ensures { result ≡ position (λ met. pointwise ◌==◌ met name.now) self.now }
     {
@@ -71,19 +71,19 @@ impl Names {
     }
 
     /// Puts a copy of a name at the end, or changes nothing.
-    pub fn push(&mut self, name: &[u8]) -> Result<(), AllocError>
+    pub fn push(&mut self, name: &str) -> Result<(), AllocError>
         ensures ok { OnOk result (self.new ≡ self.old ++ name.now ∷ []) }
         ensures err { OnErr result (self.new ≡ self.old) }
     {
-        self.names.push(name.to_vec(self.alloc)?)?;
+        self.names.push(String::from_str(self.alloc, name)?)?;
         Ok(())
     }
 }
 
-fn position_of(names: &[Vec<u8>], name: &[u8]) -> Option<usize>
-    ensures { result ≡ position (λ met. pointwise ◌==◌ met.items name.now) names.now }
+fn position_of(names: &[String], name: &[u8]) -> Option<usize>
+    ensures { result ≡ position (λ met. pointwise ◌==◌ (string_bytes met) name.now) names.now }
 {
-    names.iter().position(|met| met.as_slice() == name)
+    names.iter().position(|met| met.as_bytes() == name)
 }
 
 /// A list of variables.

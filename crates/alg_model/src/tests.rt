@@ -329,11 +329,11 @@ fn a_long_chain_of_joins(rt: HostRuntime) -> Result<(), Fail> {
 fn lists_keep_what_is_pushed(rt: HostRuntime) -> Result<(), Fail> {
     let mut names = Names::new(rt.alloc());
     assert!(rt; names.is_empty());
-    names.push(b"x")?;
-    names.push(b"yz")?;
+    names.push("x")?;
+    names.push("yz")?;
     assert_eq!(rt; names.len(), 2);
-    assert_eq!(rt; names.get(0), b"x".as_slice());
-    assert_eq!(rt; names.get(1), b"yz".as_slice());
+    assert_eq!(rt; names.get(0), "x");
+    assert_eq!(rt; names.get(1), "yz");
     let mut columns = Columns::new(rt.alloc());
     assert!(rt; columns.is_empty());
     columns.push(Var(7))?;

@@ -52,7 +52,7 @@ fn push_name(
     ensures { OnOk result (text.new.items ≡ text.old.items ++ (if is_first then marked_name names.now column else tab ∷ marked_name names.now column)) }
 {
     push_part(text, is_first, &[QUESTION])?;
-    text.extend_from_slice(names.get(column.0 as usize))
+    text.extend_from_slice(names.get(column.0 as usize).as_bytes())
 }
 
 fn push_row(text: &mut Vec<u8>, cells: &[Option<Term>]) -> Result<(), AllocError>

@@ -47,6 +47,11 @@ names-put names terminals.Variable token =
     elim (list_any (is_text (name_of token)) names) as (λ b. (if b then names else names ++ name_of token ∷ []) ≡ name_put (not b) names (name_of token)) [ true ↦ refl | false ↦ refl ]
 names-put names _ token = refl
 
+-- a new name is that of a variable
+pub new-variable : (names : List (List ℕ)) (terminal : Terminal) (token : Lexeme) → is_new_name names terminal token ≡ true → terminal ≡ terminals.Variable
+new-variable names terminals.Variable token e = refl
+new-variable names _ token e = absurd (cc)
+
 pub names-new : (names : List (List ℕ)) (terminal : Terminal) (token : Lexeme) → is_new_name names terminal token ≡ true → names_after names terminal token ≡ names ++ name_of token ∷ []
 names-new names terminal token e = names-put names terminal token ∙ ap (λ b. name_put b names (name_of token)) e
 

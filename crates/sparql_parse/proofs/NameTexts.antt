@@ -19,7 +19,8 @@ use Rattle.sparql_parse.specs.computed.Names.{is_text, with_name, names_after, n
 use Rattle.query_values.proofs.SpelledValues.{name_of-spells}
 use Rattle.sparql_parse.proofs.TokenTerminals.{terminal_of-variable}
 
-variable-text : (token : Lexeme) → IsSpelled token → token.kind ≡ kinds.Variable → IsUtf8 (name_of token)
+-- the name of a variable is a text
+pub variable-text : (token : Lexeme) → IsSpelled token → token.kind ≡ kinds.Variable → IsUtf8 (name_of token)
 variable-text token spelled kind =
     let (mark, name, is_mark, rule, text) = subst (λ (k : TokenKind). IsToken k (chars token.text)) kind spelled.rule in
     let all : scalars (mark ∷ name) ≡ true = ap scalars (sym text) ∙ scalars-chars token.text spelled.utf8 in

@@ -4,7 +4,8 @@ ghost use Rattle.std.specs.Str.{chars};
 ghost use Rattle.query_tokens.specs.Token.{shown};
 ghost use Rattle.query_grammar.specs.Roles.{with_role};
 ghost use Rattle.query_grammar.specs.Terminals.{terminal_of};
-ghost use Rattle.query_values.specs.reading.Values.{AreIriChars, IsSpelled};
+ghost use Rattle.query_tokens.specs.declared.token.TokenKind.TheVariants as kinds;
+ghost use Rattle.query_values.specs.reading.Values.{AreIriChars, IsSpelled, name_of};
 ghost use Rattle.alg_model.specs.Limits.{max_variables};
 ghost use Rattle.sparql_parse.specs.computed.Names.{is_text, namespace_of, names_after};
 ghost use Rattle.sparql_parse.specs.computed.Faults.{is_unknown, uses_prefix};
@@ -173,13 +174,27 @@ fn is_new(names: &Names, terminal: Terminal, token: Token<'_>) -> bool
 
 /// Puts the name of a variable at the end, unless it is there.
 fn add_name(names: &mut Names, terminal: Terminal, token: Token<'_>) -> Result<(), AllocError>
+    requires spelled { IsSpelled (shown token) }
+    requires terminal { terminal ≡ terminal_of (shown token) }
     ensures ok { OnOk result (names.new ≡ names_after names.old terminal (shown token.entry)) }
     ensures err { OnErr result (names.new ≡ names.old) }
 {
     if is_new(names, terminal, token) {
-        names.push(variable_name(token))?;
+        names.push(name_text(token))?;
     }
     Ok(())
+}
+
+/// The name of a variable, as a text.
+fn name_text<'a>(token: Token<'a>) -> &'a str
+    requires spelled { IsSpelled (shown token) }
+    requires variable { token.kind ≡ kinds.Variable }
+    ensures { result.now ≡ name_of (shown token.entry) }
+{
+    match str::from_utf8(variable_name(token)) {
+        Ok(name) => name,
+        Err(_) => unreachable!(),
+    }
 }
 
 /// Whether a token of this kind and role uses a prefix.
