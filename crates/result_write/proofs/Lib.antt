@@ -1,0 +1,10 @@
+pub mod JsonLaws
+pub mod Encodings
+pub mod TermTexts
+pub mod ColumnLaws
+pub mod RowLaws
+pub mod BufferLaws
+pub mod PieceLaws
+pub mod Joined
+pub mod MemberLaws
+pub mod Examples
