@@ -1,12 +1,14 @@
 -- Laws of texts and triples in the order of first sight.
-use Rattle.std.proofs.Common.{◌≡◌, ℕ, zero, suc, ◌⊎◌, inl, inr, Bool, true, false, bytes_eq, List, [], ◌∷◌, ◌++◌, Option, None, Some, if◌then◌else◌, Contains, map, refl, sym, ◌∙◌, ap, subst, append_assoc, append-nil, ◌<◌, ◌≤◌, ◌+◌, length, take, get_or, arith}
+use Rattle.std.proofs.Common.{◌≡◌, ℕ, zero, suc, ◌⊎◌, inl, inr, Bool, true, false, bytes_eq, List, [], ◌∷◌, ◌++◌, Option, None, Some, if◌then◌else◌, Contains, map, refl, sym, ◌∙◌, ap, subst, append_assoc, append-nil, ◌<◌, ◌≤◌, ◌+◌, length, take, get_or, arith, All}
 use Rattle.std.proofs.lemmas.List.{take_more, take_all, map-append}
-use Rattle.std.proofs.lemmas.List.Elements.{Contains-push_cases, Contains-push, Contains-append_left}
+use Rattle.std.proofs.lemmas.List.Elements.{All-nil, All-cons, Contains-push_cases, Contains-push, Contains-append_left}
 use Rattle.std.specs.Cmp.Lexicographic.{same_text}
 use Rattle.std.specs.List.{slice_get, list_any}
 use Rattle.indexmap.specs.IndexSet.{insert_key}
 use Rattle.bm_term.specs.declared.triple.Triple.{Triple}
 use Rattle.term_numbers.specs.Order.{Numbered}
+use Rattle.term_numbers.specs.held.Renumbered.{PlacesAreBelow}
+use Rattle.term_numbers.proofs.EntryLaws.{place_inside}
 use Rattle.term_numbers.specs.held.Seen.{IsPlaced, IsSeen, AreSeen, SeesTriple, IsSeenWhole}
 
 -- what is at a place stays there where more is put at the end
@@ -103,6 +105,15 @@ predicates-step n n' p p' ts i q t low is only one x there =
     subst (λ l. Contains l x) (sym (ap (map (λ (u : Triple). u.predicate)) more ∙ map-append (λ (u : Triple). u.predicate) (take i ts) (t ∷ [])))
     (predicates-more n n' p p' (take i ts) q t only one x there)
 
+-- the places of triples that were seen are places of texts
+below_from_seen : (n p : List (List ℕ)) (ps : List Numbered) (ts : List Triple) → AreSeen n p ps ts → All (PlacesAreBelow (length n) (length p)) ps
+below_from_seen n p [] ts h = All-nil (PlacesAreBelow (length n) (length p))
+below_from_seen n p (q ∷ ps) [] h = absurd h
+below_from_seen n p (q ∷ ps) (t ∷ ts) h =
+    All-cons (PlacesAreBelow (length n) (length p)) q ps
+    (place_inside n q.0 t.subject h.0.subject, place_inside p q.1 t.predicate h.0.predicate, place_inside n q.2 t.object h.0.object)
+    (below_from_seen n p ps ts h.1)
+
 -- after all of them
 pub IsSeenWhole-end : (n p : List (List ℕ)) (ps : List Numbered) (ts : List Triple) (i : ℕ) → length ts ≤ i → AreSeen n p ps (take i ts)
   → ((x : List ℕ) → Contains p x → Contains (map (λ t. t.predicate) (take i ts)) x) → IsSeenWhole n p ps ts
@@ -111,4 +122,5 @@ IsSeenWhole-end n p ps ts i past seen only =
     record {
       seen = subst (AreSeen n p ps) all seen;
       only = λ x there. subst (λ l. Contains (map (λ (t : Triple). t.predicate) l) x) all (only x there);
+      below = below_from_seen n p ps ts (subst (AreSeen n p ps) all seen);
     }

@@ -1,10 +1,12 @@
 -- Laws of tables of texts: the starts and the bytes, and the texts, determine each other.
-use Rattle.std.proofs.Common.{◌≡◌, ℕ, zero, suc, ◌+◌, ◌-◌, ◌<◌, ◌≤◌, List, [], ◌∷◌, ◌++◌, Some, length, get_or, take, drop, refl, sym, ap, ◌∙◌, subst, arith, length-append, append-nil, add-one}
+use Rattle.std.proofs.Common.{◌≡◌, ℕ, zero, suc, ◌+◌, ◌-◌, ◌<◌, ◌≤◌, List, [], ◌∷◌, ◌++◌, Some, length, All, get_or, take, drop, refl, sym, ap, ◌∙◌, subst, arith, length-append, append-nil, add-one}
 use Rattle.std.proofs.lemmas.List.{take_at, drop_at}
 use Rattle.std.proofs.Math.Seq.{take-append_seam, drop-append_seam, drop-append-add}
+use Rattle.std.proofs.lemmas.List.Elements.{All-push, All-head, All-tail}
 use Rattle.std.proofs.lemmas.Grind.{flat_map-append, get_or_default_zero}
 use Rattle.std.specs.List.{slice_get}
-use Rattle.term_numbers.specs.held.Table.{joined, ends_from, starts_of, cut_from, pieces_at, IsCut}
+use Rattle.term_numbers.specs.held.Table.{joined, ends_from, starts_of, cut_from, pieces_at, IsCut, IsTextTable}
+use Rattle.bm_term.specs.Canonical.{IsCanonical}
 
 cut_from-ends_from : (from : ℕ) (ts : List (List ℕ)) → cut_from from (ends_from from ts) (joined ts) ≡ ts
 cut_from-ends_from from [] = refl
@@ -29,10 +31,11 @@ joined-push ts t = flat_map-append (λ (u : List ℕ). u) ts (t ∷ []) ∙ ap (
 
 pub record IsPushed (starts bytes t starts' bytes' : List ℕ) : Type 0 where
   pub texts : pieces_at starts' bytes' ≡ pieces_at starts bytes ++ t ∷ []
-  pub cut : IsCut starts' bytes'
+  pub table : IsTextTable starts' bytes'
 
-pub IsCut-push : (starts bytes t starts' bytes' : List ℕ) → IsCut starts bytes → bytes' ≡ bytes ++ t → starts' ≡ starts ++ length bytes' ∷ [] → IsPushed starts bytes t starts' bytes'
-IsCut-push starts bytes t starts' bytes' cut more pushed =
+pub IsTextTable-push : (starts bytes t starts' bytes' : List ℕ) → IsTextTable starts bytes → ∥ IsCanonical t ∥₁ → bytes' ≡ bytes ++ t → starts' ≡ starts ++ length bytes' ∷ [] → IsPushed starts bytes t starts' bytes'
+IsTextTable-push starts bytes t starts' bytes' held canonical more pushed =
+    let cut : IsCut starts bytes = held.cut in
     let ts : List (List ℕ) = pieces_at starts bytes in
     let new : List (List ℕ) = ts ++ t ∷ [] in
     let bytes_are : bytes' ≡ joined new = more ∙ ap (λ l. l ++ t) cut.bytes_are ∙ sym (joined-push ts t) in
@@ -41,7 +44,10 @@ IsCut-push starts bytes t starts' bytes' cut more pushed =
     let texts : pieces_at starts' bytes' ≡ new = (λ i. pieces_at (starts_are i) (bytes_are i)) ∙ pieces_at-starts_of new in
     record {
       texts = texts;
-      cut = record { starts_are = starts_are ∙ ap starts_of (sym texts); bytes_are = bytes_are ∙ ap joined (sym texts) };
+      table = record {
+        cut = record { starts_are = starts_are ∙ ap starts_of (sym texts); bytes_are = bytes_are ∙ ap joined (sym texts) };
+        canonical = subst (All (λ u. ∥ IsCanonical u ∥₁)) (sym texts) (All-push (λ u. ∥ IsCanonical u ∥₁) ts t held.canonical canonical);
+      };
     }
 
 -- the text at a place is between two starts
@@ -103,3 +109,9 @@ text_between starts bytes ts i low high cut are inside at_low at_high =
       within = omega (arith, at.within, ap length b);
       text = at.text ∙ (λ j. Some (take (sym h j - sym l j) (drop (none j) (sym b j))));
     }
+
+-- a text that a table has is canonical
+pub canonical_at : (ts : List (List ℕ)) (i : ℕ) (t : List ℕ) → All (λ u. ∥ IsCanonical u ∥₁) ts → slice_get ts i ≡ Some t → ∥ IsCanonical t ∥₁
+canonical_at [] i t all at = absurd (cc)
+canonical_at (u ∷ ts) zero t all at = let same : u ≡ t = cc in subst (λ v. ∥ IsCanonical v ∥₁) same (All-head (λ v. ∥ IsCanonical v ∥₁) u ts all)
+canonical_at (u ∷ ts) (suc i) t all at = canonical_at ts i t (All-tail (λ v. ∥ IsCanonical v ∥₁) u ts all) at

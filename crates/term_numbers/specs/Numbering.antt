@@ -1,6 +1,6 @@
 -- The numbering of a graph: four ascending lists of terms, and the triples by the places of their terms in these lists.
 -- It is this project's own.
-use Rattle.std.specs.Prelude.{ℕ, Bool, not, bytes_eq, List, ◌++◌, map, filter}
+use Rattle.std.specs.Prelude.{ℕ, Bool, not, bytes_eq, List, [], ◌++◌, map, filter, slice_index_or}
 use Rattle.std.specs.List.{list_any, position_or_len}
 use Rattle.bm_term.specs.declared.triple.Triple.{Triple}
 use Rattle.bm_term.specs.SetOf.{set_of}
@@ -55,6 +55,14 @@ place_of texts x = position_or_len (bytes_eq x) texts
 abbrev pub numbers_in : Terms → Triple → Numbered
 numbers_in terms t =
     (place_of (all_subjects terms) t.subject, place_of terms.predicates t.predicate, place_of (all_objects terms) t.object)
+
+-- and the triple that has some numbers
+abbrev pub named : Terms → Numbered → Triple
+named terms n = record {
+  subject = slice_index_or (all_subjects terms) n.0 [];
+  predicate = slice_index_or terms.predicates n.1 [];
+  object = slice_index_or (all_objects terms) n.2 [];
+}
 
 -- terms, and triples by their numbers
 pub record Numbering : Type 0 where

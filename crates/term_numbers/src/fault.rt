@@ -32,12 +32,12 @@ impl<T: Drop> From<AllocFailed<T>> for NumberFault {
     }
 }
 
-/// The number in four bytes.
-pub(crate) fn number_from(n: usize) -> Result<u32, NumberFault>
+/// The number in four bytes. Where it has no room there, it is as if memory had run out.
+pub(crate) fn number_from(n: usize) -> Result<u32, AllocError>
     ensures { IfOk result (λ number. number ≡ n) }
 {
     match u32::try_from(n) {
         Ok(number) => Ok(number),
-        Err(_) => Err(NumberFault::Memory),
+        Err(_) => Err(AllocError),
     }
 }

@@ -5,7 +5,7 @@ ghost use Rattle.term_numbers.specs.held.Seen.{NodesAreBelow, AreRoles};
 ghost use Rattle.term_numbers.specs.held.Entries.{entries_from, AreSplit, AreGroups, PutsEntry, IsGroup, anywhere};
 
 use crate::entry::Entry;
-use crate::fault::{NumberFault, number_from};
+use crate::fault::number_from;
 use crate::role::{Role, roles};
 use crate::text::Text;
 use std::alloc::{AllocError, Global};
@@ -23,7 +23,7 @@ pub(crate) fn group_nodes<'a>(
     alloc: Global,
     nodes: &[Text<'a>],
     triples: &[(u32, u32, u32)],
-) -> Result<Groups<'a>, NumberFault>
+) -> Result<Groups<'a>, AllocError>
     requires below { All (NodesAreBelow (length nodes.now)) triples.now }
     requires differ { IsDistinct bytes_eq nodes.now }
     ensures { IfOk result (λ groups. AreGroups nodes.now triples.now groups.shared.items groups.subjects.items groups.objects.items) }
@@ -37,7 +37,7 @@ pub(crate) fn group_nodes<'a>(
 }
 
 /// The nodes by their roles, in the order of first sight.
-fn split<'a>(alloc: Global, nodes: &[Text<'a>], roles: &[Role]) -> Result<Groups<'a>, NumberFault>
+fn split<'a>(alloc: Global, nodes: &[Text<'a>], roles: &[Role]) -> Result<Groups<'a>, AllocError>
     requires { length roles.now ≡ length nodes.now }
     ensures { IfOk result (λ groups. AreSplit roles.now (entries_from 0 nodes.now) groups.shared.items groups.subjects.items groups.objects.items) }
 {
@@ -70,7 +70,7 @@ fn put<'a>(groups: &mut Groups<'a>, role: Role, entry: Entry<'a>) -> Result<(), 
 }
 
 /// All texts, ascending.
-pub(crate) fn ascending<'a>(alloc: Global, texts: &[Text<'a>]) -> Result<Vec<Entry<'a>>, NumberFault>
+pub(crate) fn ascending<'a>(alloc: Global, texts: &[Text<'a>]) -> Result<Vec<Entry<'a>>, AllocError>
     requires { IsDistinct bytes_eq texts.now }
     ensures { IfOk result (λ entries. IsGroup texts.now anywhere entries.items) }
 {
@@ -80,7 +80,7 @@ pub(crate) fn ascending<'a>(alloc: Global, texts: &[Text<'a>]) -> Result<Vec<Ent
 }
 
 /// All texts with their places.
-fn entries<'a>(alloc: Global, texts: &[Text<'a>]) -> Result<Vec<Entry<'a>>, NumberFault>
+fn entries<'a>(alloc: Global, texts: &[Text<'a>]) -> Result<Vec<Entry<'a>>, AllocError>
     ensures { IfOk result (λ entries. entries.items ≡ entries_from 0 texts.now) }
 {
     let mut entries = Vec::with_capacity(alloc, texts.len())?;

@@ -4,6 +4,8 @@
 mod entry;
 mod fault;
 mod group;
+mod numbering;
+mod numbers;
 mod renumber;
 mod role;
 mod seen;
@@ -11,3 +13,5 @@ mod table;
 mod text;
 
 pub use fault::NumberFault;
+pub use numbering::{number, number_by};
+pub use numbers::Numbers;

@@ -6,14 +6,15 @@ ghost use Rattle.term_numbers.specs.held.Entries.{PlacesDiffer, PlaceIsBelow, Ar
 ghost use Rattle.term_numbers.specs.held.Renumbered.{PlacesAreBelow, renumbered};
 
 use crate::entry::Entry;
-use crate::fault::{NumberFault, number_from};
+use crate::fault::number_from;
+use std::alloc::AllocError;
 
 /// Writes the numbers of entries, from the first one on, each at the entry's place.
 pub(crate) fn number_entries(
     numbers: &mut [u32],
     entries: &[Entry<'_>],
     first: usize,
-) -> Result<(), NumberFault>
+) -> Result<(), AllocError>
     requires below { All (PlaceIsBelow (length numbers.old)) entries.now }
     requires differ { PlacesDiffer entries.now }
     requires fits { first + length entries.now < 2 ^ 64 }

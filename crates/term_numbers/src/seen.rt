@@ -2,11 +2,11 @@
 ghost use Rattle.std.specs.Prelude.{◌≡◌, [], IfOk};
 ghost use Rattle.term_numbers.specs.held.Seen.{IsPlaced, SeesTriple, IsSeenWhole};
 
-use crate::fault::{NumberFault, number_from};
+use crate::fault::number_from;
 use crate::text::Text;
 use bm_term::Triple;
 use indexmap::IndexSet;
-use std::alloc::Global;
+use std::alloc::{AllocError, Global};
 use std::hash::BuildHasher;
 
 /// The places of all triples. A text is hashed once for each place where it is, and not at all where it is the subject
@@ -16,7 +16,7 @@ pub(crate) fn see<'a, S: BuildHasher + Copy + Drop>(
     triples: &'a [Triple],
     nodes: &mut IndexSet<Text<'a>, S>,
     predicates: &mut IndexSet<Text<'a>, S>,
-) -> Result<Vec<(u32, u32, u32)>, NumberFault>
+) -> Result<Vec<(u32, u32, u32)>, AllocError>
     requires { predicates.old.keys ≡ [] }
     ensures { IfOk result (λ places. IsSeenWhole nodes.new.keys predicates.new.keys places.items triples.now) }
 {
@@ -35,7 +35,7 @@ fn see_triple<'a, S: BuildHasher + Copy + Drop>(
     predicates: &mut IndexSet<Text<'a>, S>,
     last: (u32, u32, u32),
     triple: &'a Triple,
-) -> Result<(u32, u32, u32), NumberFault>
+) -> Result<(u32, u32, u32), AllocError>
     ensures { IfOk result (λ places. SeesTriple nodes.old.keys nodes.new.keys predicates.old.keys predicates.new.keys places triple.now) }
 {
     let subject = place_near(nodes, last.0, Text::of(&triple.subject))?;
@@ -49,7 +49,7 @@ fn place_near<'a, S: BuildHasher + Copy + Drop>(
     texts: &mut IndexSet<Text<'a>, S>,
     near: u32,
     text: Text<'a>,
-) -> Result<u32, NumberFault>
+) -> Result<u32, AllocError>
     ensures { IfOk result (λ place. IsPlaced texts.old.keys texts.new.keys text.entry place) }
 {
     if let Some(found) = texts.get_index(near as usize)
@@ -61,7 +61,7 @@ fn place_near<'a, S: BuildHasher + Copy + Drop>(
 }
 
 /// The place of a text, which is put at the end if it is not there.
-fn place_in<'a, S: BuildHasher + Copy + Drop>(texts: &mut IndexSet<Text<'a>, S>, text: Text<'a>) -> Result<u32, NumberFault>
+fn place_in<'a, S: BuildHasher + Copy + Drop>(texts: &mut IndexSet<Text<'a>, S>, text: Text<'a>) -> Result<u32, AllocError>
     ensures { IfOk result (λ place. IsPlaced texts.old.keys texts.new.keys text.entry place) }
 {
     let (place, _) = texts.insert_full(text)?;

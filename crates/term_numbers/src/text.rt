@@ -5,9 +5,9 @@ ghost use Rattle.std.specs.Cmp.{partial_order_from_own_ties};
 ghost use Rattle.std.specs.Cmp.Rules.{comparing, hashing};
 ghost use Rattle.std.specs.Cmp.Lexicographic.{pointwise, slice_cmp};
 ghost use Rattle.std.specs.Ordering.{nat_cmp, as_partial_cmp};
-ghost use Rattle.bm_term.specs.Canonical.{IsCanonical};
+ghost use Rattle.bm_term.specs.TermRef.{text_of};
 
-use bm_term::Term;
+use bm_term::{Term, TermRef};
 use std::cmp::Ordering;
 use std::hash::{Hash, Hasher};
 use std::marker::Model;
@@ -46,12 +46,11 @@ impl<'a> Text<'a> {
         Text { bytes: self.bytes }
     }
 
-    /// The bytes.
-    pub(crate) fn bytes(&self) -> &'a [u8]
-        ensures text { result.now ≡ self.now }
-        ensures canonical { ∥ IsCanonical result.now ∥₁ }
+    /// The text as a term.
+    pub(crate) fn term(&self) -> TermRef<'a>
+        ensures { text_of result ≡ self.now }
     {
-        self.bytes
+        TermRef::from_canonical(self.bytes)
     }
 }
 

@@ -1,8 +1,9 @@
 -- Carries proofs only: texts and triples by the order in which they were first seen.
-use Rattle.std.specs.Prelude.{◌≡◌, ℕ, ◌⊎◌, List, [], ◌∷◌, ◌++◌, Some, Contains, Bool, ◌==◌, ◌<◌, map, length}
+use Rattle.std.specs.Prelude.{◌≡◌, ℕ, ◌⊎◌, List, [], ◌∷◌, ◌++◌, Some, Contains, Bool, ◌==◌, ◌<◌, map, length, All}
 use Rattle.std.specs.List.{slice_get, list_any}
 use Rattle.bm_term.specs.declared.triple.Triple.{Triple}
 use Rattle.term_numbers.specs.Order.{Numbered}
+use Rattle.term_numbers.specs.held.Renumbered.{PlacesAreBelow}
 use Rattle.term_numbers.specs.declared.role.Role.{Role}
 
 -- a text has this place in a list, to which it was put if it was not there
@@ -34,6 +35,7 @@ pub record SeesTriple (nodes nodes' predicates predicates' : List (List ℕ)) (p
 pub record IsSeenWhole (nodes predicates : List (List ℕ)) (places : List Numbered) (triples : List Triple) : Type 0 where
   pub seen : AreSeen nodes predicates places triples
   pub only : (x : List ℕ) → Contains predicates x → Contains (map (λ t. t.predicate) triples) x
+  pub below : All (PlacesAreBelow (length nodes) (length predicates)) places
 
 -- whether a node is a subject, and whether it is an object
 abbrev pub role_of : List Numbered → ℕ → Role

@@ -1,6 +1,7 @@
 -- Carries proofs only: texts one after the other, and where each starts.
-use Rattle.std.specs.Prelude.{◌≡◌, ℕ, ◌+◌, ◌-◌, List, [], ◌∷◌, length, take, drop}
+use Rattle.std.specs.Prelude.{◌≡◌, ℕ, ◌+◌, ◌-◌, List, [], ◌∷◌, length, take, drop, All}
 use Rattle.std.specs.List.{flat_map}
+use Rattle.bm_term.specs.Canonical.{IsCanonical}
 
 -- the texts one after the other, with nothing between them
 abbrev pub joined : List (List ℕ) → List ℕ
@@ -29,3 +30,8 @@ pieces_at (s ∷ es) bytes = cut_from s es bytes
 pub record IsCut (starts bytes : List ℕ) : Type 0 where
   pub starts_are : starts ≡ starts_of (pieces_at starts bytes)
   pub bytes_are : bytes ≡ joined (pieces_at starts bytes)
+
+-- and each text is canonical
+pub record IsTextTable (starts bytes : List ℕ) : Type 0 where
+  pub cut : IsCut starts bytes
+  pub canonical : All (λ t. ∥ IsCanonical t ∥₁) (pieces_at starts bytes)
