@@ -1,63 +1,85 @@
 -- The verdict once both files have been read.
-use Rattle.std.proofs.Common.{◌≡◌, ◌≢◌, ℕ, List, None, Ok, Err, inl, inr, sym, ◌∙◌, ap}
+use Rattle.std.proofs.Common.{◌≡◌, ◌≢◌, ℕ, ◌≤◌, ◌<◌, List, None, Ok, Err, inl, inr, sym, ◌∙◌, ap, subst, length}
+use Rattle.bm_term.specs.declared.triple.Triple.{Triple}
 use Rattle.bm_term.specs.Graph.{graph_of}
 use Rattle.alg_model.specs.declared.query.Query.{Query}
-use Rattle.alg_model.specs.Answers.{answers_of}
+use Rattle.alg_model.specs.Answers.{answers_to}
+use Rattle.alg_model.specs.Pattern.{algebra_of}
 use Rattle.alg_model.specs.Query.{abstract_of}
 use Rattle.nt_read.specs.declared.lines.FeedFault.{FeedFault}
 use Rattle.nt_read.specs.declared.lines.FeedFault.TheVariants as feed_faults
+use Rattle.nt_read.specs.scanning.Lines.{first_bad, lines_of, triples_of}
+use Rattle.term_numbers.specs.declared.fault.NumberFault.{NumberFault}
+use Rattle.term_numbers.specs.declared.fault.NumberFault.TheVariants as number_faults
 use Rattle.sparql_parse.specs.computed.Reading.{query_reading, IsMemoryOr}
 use Rattle.sparql_parse.specs.declared.fault.QueryFault.{QueryFault}
 use Rattle.sparql_parse.specs.declared.fault.QueryFault.TheVariants as query_faults
+use Rattle.well_designed.specs.Computed.{refusal_in}
+use Rattle.result_write.specs.declared.form.Form.{Form}
+use Rattle.result_write.specs.ResultText.{result_text}
 use Rattle.bm_top.specs.declared.decide.Undecided.{Undecided}
 use Rattle.bm_top.specs.declared.decide.Undecided.TheVariants as undecided
-use Rattle.bm_top.specs.steps.Decide.{IsAcceptance, IsDecided, from_data, from_query}
-use Rattle.alg_model.specs.Pattern.{algebra_of}
-use Rattle.well_designed.specs.Computed.{refusal_in}
-use Rattle.nt_read.specs.scanning.Lines.{first_bad, lines_of, triples_of}
-use Rattle.bm_top.specs.Lines.{fault_line}
-use Rattle.bm_top.specs.steps.Data.{IsDataOf}
-use Rattle.bm_top.specs.Tsv.{tsv_text}
+use Rattle.bm_top.specs.Lines.{fault_line, too_many_triples_line}
 use Rattle.bm_top.specs.Verdict.{answered, refused}
-use Rattle.bm_top.specs.steps.VerdictOf.{accepting, answering, deciding, decided}
+use Rattle.bm_top.specs.steps.Data.{IsDataOf}
+use Rattle.bm_top.specs.steps.Decide.{IsAcceptance, IsDecided, from_data, from_numbers, from_query}
+use Rattle.bm_top.specs.steps.Printing.{answer_verdict}
+use Rattle.bm_top.specs.steps.VerdictOf.{accepting, answering, counting, deciding, decided, graph_in}
+use Rattle.bm_top.proofs.Counting.{few-counted, many-counted}
 
 -- the data was refused
-pub decided-data : (bytes text : List ℕ) (fault : FeedFault) → IsDataOf bytes (Err fault) → IsDecided (decided bytes text) (Err (from_data fault))
+pub decided-data : (bytes text : List ℕ) (fault : FeedFault) → IsDataOf bytes (Err fault) → IsDecided bytes text (Err (from_data fault))
 unfolding decided
-decided-data bytes text (feed_faults.NotNTriples line) h = ap (λ bad. deciding bad (lines_of bytes) (query_reading text)) h
+decided-data bytes text (feed_faults.NotNTriples line) h = λ form. ap (λ bad. deciding form bad (graph_in bytes) (query_reading text)) h
 decided-data bytes text feed_faults.Memory h = tt
 
--- what was read as a query has a fault
-decided-fault : (bytes text : List ℕ) (fault : QueryFault) → first_bad bytes ≡ None → query_reading text ≡ Err fault → decided bytes text ≡ refused 3 (fault_line fault)
+-- there were too many triples
+pub decided-numbers : (bytes text : List ℕ) (fault : NumberFault) → first_bad bytes ≡ None → (fault ≡ number_faults.TooManyTriples → 8388608 < length (graph_in bytes)) → IsDecided bytes text (Err (from_numbers fault))
 unfolding decided
-decided-fault bytes text fault good h = rw good (ap (answering (lines_of bytes)) h)
+decided-numbers bytes text number_faults.TooManyTriples good many =
+    λ form. ap (λ bad. deciding form bad (graph_in bytes) (query_reading text)) good ∙ many-counted (graph_in bytes) (answering form (graph_in bytes) (query_reading text)) (many refl)
+decided-numbers bytes text number_faults.Memory good many = tt
 
--- a fault that is not of memory is what was read
-told : (text : List ℕ) (fault : QueryFault) → fault ≢ query_faults.Memory → IsMemoryOr (query_reading text) fault → query_reading text ≡ Err fault
-told text fault other (inl e) = absurd (other e)
-told text fault other (inr e) = e
+module _ (bytes text : List ℕ) (good : first_bad bytes ≡ None) (few : length (graph_in bytes) ≤ 8388608) where
+  -- the data was taken
+  taken : (form : Form) → decided form bytes text ≡ answering form (graph_in bytes) (query_reading text)
+  unfolding decided
+  taken form =
+      ap (λ bad. deciding form bad (graph_in bytes) (query_reading text)) good
+      ∙ few-counted (graph_in bytes) (answering form (graph_in bytes) (query_reading text)) few
 
--- the query was refused
-pub decided-query : (bytes text : List ℕ) (fault : QueryFault) → first_bad bytes ≡ None → IsMemoryOr (query_reading text) fault → IsDecided (decided bytes text) (Err (from_query fault))
-decided-query bytes text query_faults.Memory good h = tt
-decided-query bytes text (query_faults.Syntax at) good h = decided-fault bytes text (query_faults.Syntax at) good (told text (query_faults.Syntax at) (λ e. absurd (cc)) h)
-decided-query bytes text (query_faults.Unsupported at word) good h = decided-fault bytes text (query_faults.Unsupported at word) good (told text (query_faults.Unsupported at word) (λ e. absurd (cc)) h)
-decided-query bytes text (query_faults.UnknownPrefix at) good h = decided-fault bytes text (query_faults.UnknownPrefix at) good (told text (query_faults.UnknownPrefix at) (λ e. absurd (cc)) h)
-decided-query bytes text (query_faults.TooManyVariables at) good h = decided-fault bytes text (query_faults.TooManyVariables at) good (told text (query_faults.TooManyVariables at) (λ e. absurd (cc)) h)
-decided-query bytes text (query_faults.TooManyPatterns at) good h = decided-fault bytes text (query_faults.TooManyPatterns at) good (told text (query_faults.TooManyPatterns at) (λ e. absurd (cc)) h)
-decided-query bytes text (query_faults.TooManyOptionals at) good h = decided-fault bytes text (query_faults.TooManyOptionals at) good (told text (query_faults.TooManyOptionals at) (λ e. absurd (cc)) h)
-decided-query bytes text (query_faults.TooManyGroups at) good h = decided-fault bytes text (query_faults.TooManyGroups at) good (told text (query_faults.TooManyGroups at) (λ e. absurd (cc)) h)
-decided-query bytes text (query_faults.TooDeep at) good h = decided-fault bytes text (query_faults.TooDeep at) good (told text (query_faults.TooDeep at) (λ e. absurd (cc)) h)
+  -- what was read as a query has a fault
+  decided-fault : (fault : QueryFault) → query_reading text ≡ Err fault → (form : Form) → decided form bytes text ≡ refused 3 (fault_line fault)
+  decided-fault fault h form = taken form ∙ ap (answering form (graph_in bytes)) h
 
--- both were taken
-pub decided-answered : (bytes text : List ℕ) (query : Query) → first_bad bytes ≡ None → query_reading text ≡ Ok (abstract_of query) → refusal_in (algebra_of query.pattern) ≡ None → decided bytes text ≡ answered (tsv_text (abstract_of query) (answers_of query (graph_of (triples_of (lines_of bytes)))))
-unfolding decided
-decided-answered bytes text query good h accepted = rw good (ap (answering (lines_of bytes)) h ∙ ap (accepting (lines_of bytes) (abstract_of query)) accepted)
+  -- a fault that is not of memory is what was read
+  told : (fault : QueryFault) → fault ≢ query_faults.Memory → IsMemoryOr (query_reading text) fault → query_reading text ≡ Err fault
+  told fault other (inl e) = absurd (other e)
+  told fault other (inr e) = e
 
--- the pattern of the query was refused
-pub decided-refused : (bytes text : List ℕ) (query : Query) (why : Undecided) → first_bad bytes ≡ None → query_reading text ≡ Ok (abstract_of query) → IsAcceptance (abstract_of query) (Err why) → IsDecided (decided bytes text) (Err why)
-unfolding decided
-decided-refused bytes text query (undecided.BadLine line) good h is = absurd is
-decided-refused bytes text query (undecided.Query refusal) good h (cause, refuses, line) =
-    rw good (ap (answering (lines_of bytes)) h ∙ ap (accepting (lines_of bytes) (abstract_of query)) refuses ∙ ap (refused 3) (sym line))
-decided-refused bytes text query undecided.Memory good h is = tt
+  -- the query was refused
+  pub decided-query : (fault : QueryFault) → IsMemoryOr (query_reading text) fault → IsDecided bytes text (Err (from_query fault))
+  decided-query query_faults.Memory h = tt
+  decided-query (query_faults.Syntax at) h = decided-fault (query_faults.Syntax at) (told (query_faults.Syntax at) (λ e. absurd (cc)) h)
+  decided-query (query_faults.Unsupported at word) h = decided-fault (query_faults.Unsupported at word) (told (query_faults.Unsupported at word) (λ e. absurd (cc)) h)
+  decided-query (query_faults.UnknownPrefix at) h = decided-fault (query_faults.UnknownPrefix at) (told (query_faults.UnknownPrefix at) (λ e. absurd (cc)) h)
+  decided-query (query_faults.TooManyVariables at) h = decided-fault (query_faults.TooManyVariables at) (told (query_faults.TooManyVariables at) (λ e. absurd (cc)) h)
+  decided-query (query_faults.TooManyPatterns at) h = decided-fault (query_faults.TooManyPatterns at) (told (query_faults.TooManyPatterns at) (λ e. absurd (cc)) h)
+  decided-query (query_faults.TooManyOptionals at) h = decided-fault (query_faults.TooManyOptionals at) (told (query_faults.TooManyOptionals at) (λ e. absurd (cc)) h)
+  decided-query (query_faults.TooManyGroups at) h = decided-fault (query_faults.TooManyGroups at) (told (query_faults.TooManyGroups at) (λ e. absurd (cc)) h)
+  decided-query (query_faults.TooDeep at) h = decided-fault (query_faults.TooDeep at) (told (query_faults.TooDeep at) (λ e. absurd (cc)) h)
+
+  module _ (query : Query) (read : query_reading text ≡ Ok (abstract_of query)) where
+    -- the pattern of the query was refused
+    pub decided-refused : (why : Undecided) → IsAcceptance (abstract_of query) (Err why) → IsDecided bytes text (Err why)
+    decided-refused (undecided.BadLine line) is = absurd is
+    decided-refused undecided.TooManyTriples is = absurd is
+    decided-refused (undecided.Query refusal) (cause, refuses, line) =
+        λ form. taken form ∙ ap (answering form (graph_in bytes)) read ∙ ap (accepting form (graph_in bytes) (abstract_of query)) refuses ∙ ap (refused 3) (sym line)
+    decided-refused undecided.Memory is = tt
+
+    -- both were taken
+    pub decided-answered : (graph : List Triple) → graph ≡ graph_in bytes → refusal_in (algebra_of query.pattern) ≡ None → (form : Form) → decided form bytes text ≡ answer_verdict form query graph
+    decided-answered graph same accepted form =
+        taken form ∙ ap (answering form (graph_in bytes)) read ∙ ap (accepting form (graph_in bytes) (abstract_of query)) accepted
+        ∙ ap (λ (g : List Triple). answered (result_text form (abstract_of query) (answers_to (abstract_of query) g))) (sym same)

@@ -1,32 +1,21 @@
--- Worked examples, by computation: result texts, commands, lines and verdicts.
-use Rattle.std.proofs.Common.{◌≡◌, [], ◌∷◌, ◌++◌, None, Some, Err, false, codes, decimal, refl}
-use Rattle.alg_model.specs.Query.{AbstractQuery}
-use Rattle.alg_model.specs.Pattern.{Bgp}
+-- Worked examples, by computation: commands, lines and verdicts.
+use Rattle.std.proofs.Common.{◌≡◌, ℕ, List, true, [], ◌∷◌, ◌++◌, None, Some, Err, codes, decimal, refl}
+use Rattle.result_write.specs.declared.form.Form.TheVariants.{Tsv, Json}
 use Rattle.query_grammar.specs.declared.words.Word.TheVariants as words
 use Rattle.sparql_parse.specs.declared.fault.QueryFault.TheVariants as faults
 use Rattle.bm_top.specs.Command.{ask, request_of}
 use Rattle.bm_world.specs.Meanings.{Files}
-use Rattle.bm_top.specs.Lines.{fault_line, usage_line, write_fault_line, out_of_memory_line}
-use Rattle.bm_top.specs.Tsv.{tsv_text}
+use Rattle.well_designed.specs.declared.refusals.Refusal.TheVariants as patterns
+use Rattle.bm_top.specs.Lines.{fault_line, pattern_line, write_fault_line, out_of_memory_line}
 use Rattle.bm_top.specs.Verdict.{answered, refused}
-use Rattle.bm_top.specs.steps.VerdictOf.{within, reading_file, deciding, verdict_of}
+use Rattle.bm_top.specs.steps.VerdictOf.{counting, within, reading_file, deciding, verdict_of}
 
--- a query with two columns
-abbrev two_columns : AbstractQuery
-two_columns = record {
-  names = codes "x" ∷ codes "y" ∷ [];
-  pattern = Bgp [];
-  columns = record { 0 = 0 } ∷ record { 0 = 1 } ∷ [];
-  distinct = false;
-}
-
--- a header, and a line for each row; an unbound cell is empty
-result_text : tsv_text two_columns ((Some (codes "<a>") ∷ Some (codes "\"b\"") ∷ []) ∷ (None ∷ Some (codes "<c>") ∷ []) ∷ []) ≡ codes "?x\t?y\n<a>\t\"b\"\n\t<c>\n"
-result_text = refl
-
--- the one command, a form that is none, and a word too few
-command : request_of (codes "ask" ∷ codes "d" ∷ codes "q" ∷ codes "tsv" ∷ []) ≡ Some (ask (codes "d") (codes "q"))
+-- the one command in both forms, a form that is none, and a word too few
+command : request_of (codes "ask" ∷ codes "d" ∷ codes "q" ∷ codes "tsv" ∷ []) ≡ Some (ask (codes "d") (codes "q") Tsv)
 command = refl
+
+command_json : request_of (codes "ask" ∷ codes "d" ∷ codes "q" ∷ codes "json" ∷ []) ≡ Some (ask (codes "d") (codes "q") Json)
+command_json = refl
 
 unknown_form : request_of (codes "ask" ∷ codes "d" ∷ codes "q" ∷ codes "xml" ∷ []) ≡ None
 unknown_form = refl
@@ -49,10 +38,10 @@ not_too_long : within (codes "q") 3 (codes "abc") answered ≡ answered (codes "
 not_too_long = refl
 
 -- a bad line goes before a query that is refused
-bad_line : deciding (Some 12) [] (Err (faults.Syntax 0)) ≡ refused 2 (codes "data refused: line " ++ (decimal 12 ++ codes "\n"))
+bad_line : deciding Json (Some 12) [] (Err (faults.Syntax 0)) ≡ refused 2 (codes "data refused: line " ++ (decimal 12 ++ codes "\n"))
 bad_line = refl
 
-bad_query : deciding None [] (Err (faults.Syntax 9)) ≡ refused 3 (codes "query refused: syntax at byte " ++ (decimal 9 ++ codes "\n"))
+bad_query : deciding Tsv None [] (Err (faults.Syntax 9)) ≡ refused 3 (codes "query refused: syntax at byte " ++ (decimal 9 ++ codes "\n"))
 bad_query = refl
 
 -- each line of a query that is refused
@@ -86,3 +75,20 @@ write_fault = refl
 
 out_of_memory : out_of_memory_line ≡ codes "out of memory\n"
 out_of_memory = refl
+
+-- each line of a pattern that is refused
+abbrev names : List (List ℕ)
+names = codes "x" ∷ codes "long" ∷ []
+
+not_well_designed : pattern_line names (patterns.NotWellDesigned 3 (record { 0 = 1 })) ≡ codes "query refused: not well designed: optional " ++ (decimal 3 ++ codes ", variable ?long\n")
+not_well_designed = refl
+
+three_places : pattern_line names (patterns.ThreePlaces 12) ≡ codes "query refused: three variables in pattern " ++ (decimal 12 ++ codes "\n")
+three_places = refl
+
+cross_place : pattern_line names (patterns.CrossPlace (record { 0 = 0 })) ≡ codes "query refused: variable ?x at predicate and node places\n"
+cross_place = refl
+
+-- a limit of triples
+too_many_triples : counting true (answered (codes "x")) ≡ refused 8 (codes "limit: more than 8388608 triples\n")
+too_many_triples = refl

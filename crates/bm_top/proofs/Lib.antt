@@ -1,4 +1,5 @@
-pub mod Answered
+pub mod Arranged
+pub mod Counting
 pub mod DataTriples
 pub mod Deciding
 pub mod Distinct

@@ -27,6 +27,7 @@ refusal_status-is refusals.Usage = record { no0 = λ e. absurd (omega arith); no
 refusal_status-is (refusals.BadLine line) = record { no0 = λ e. absurd (omega arith); no5 = λ e. absurd (omega arith); no6 = λ e. absurd (omega arith); no7 = λ e. absurd (omega arith) }
 refusal_status-is (refusals.Query refusal) = record { no0 = λ e. absurd (omega arith); no5 = λ e. absurd (omega arith); no6 = λ e. absurd (omega arith); no7 = λ e. absurd (omega arith) }
 refusal_status-is (refusals.TooLong name limit) = record { no0 = λ e. absurd (omega arith); no5 = λ e. absurd (omega arith); no6 = λ e. absurd (omega arith); no7 = λ e. absurd (omega arith) }
+refusal_status-is refusals.TooManyTriples = record { no0 = λ e. absurd (omega arith); no5 = λ e. absurd (omega arith); no6 = λ e. absurd (omega arith); no7 = λ e. absurd (omega arith) }
 
 -- a command keeps a file that is being made, and complaints
 record Kept (m k : Meanings) : Type 0 where
@@ -44,7 +45,7 @@ kept verdict ends.Done m k ended = kept_left (files_after verdict m.files) verdi
 kept verdict (ends.Refused refusal) m k ended = kept_read m k ended.1
 kept verdict (ends.ReadFault name) m k ended = kept_read m k ended
 kept verdict ends.WriteFault m k (done, (files, count, front, moved)) = kept_left files (take count verdict.text) m k moved
-kept verdict ends.Memory m k ended = kept_read m k ended
+kept verdict ends.Memory m k (count, moved) = kept_left m.files (take count verdict.text) m k moved
 
 -- after a line was complained, or a front of it
 record Said (line : List ℕ) (k n : Meanings) : Type 0 where
@@ -133,8 +134,14 @@ LeavesFiles-ended verdict ends.WriteFault said m k n (done, (files, count, front
       kept = λ _ not. absurd (not refl);
       made = after.made ∙ ap (λ (w : Meanings). w.made) moved;
     }
-LeavesFiles-ended verdict ends.Memory said m k n ended complained =
-    unchanged verdict 7 (line_of ends.Memory) said m k n (λ e. omega arith) (λ e. omega arith) ended complained
+LeavesFiles-ended verdict ends.Memory said m k n (count, moved) complained =
+    let after = said_so (line_of ends.Memory) said k n complained in
+    record {
+      whole = λ e. absurd (omega arith);
+      front = λ e. absurd (omega arith);
+      kept = λ _ _. after.files ∙ ap (λ (w : Meanings). w.files) moved;
+      made = after.made ∙ ap (λ (w : Meanings). w.made) moved;
+    }
 
 pub IsHonest-ended : (verdict : Verdict) (ending : Ending) (m k : Meanings) → EndsSo verdict ending m k → IsHonest verdict (status_of ending)
 IsHonest-ended verdict ends.Done m k ended = record { answer = λ _ _ _. sym ended.0; write_fault = λ e. absurd (omega arith) }
@@ -191,12 +198,12 @@ Outputs-ended verdict ends.WriteFault said m k n (done, (files, count, front, mo
       front = λ _. (count, after.printed ∙ ap (λ (w : Meanings). w.printed) moved);
       nothing = λ _ not _. absurd (not refl);
     }
-Outputs-ended verdict ends.Memory said m k n ended complained =
+Outputs-ended verdict ends.Memory said m k n (count, moved) complained =
     let after = said_so (line_of ends.Memory) said k n complained in
     record {
       whole = λ e. absurd (omega arith);
       quiet = λ e. absurd (omega arith);
-      front = λ _. (0, after.printed ∙ ap (λ (w : Meanings). w.printed) ended ∙ sym (append-nil m.printed));
+      front = λ _. (count, after.printed ∙ ap (λ (w : Meanings). w.printed) moved);
       nothing = λ _ _ not. absurd (not refl);
     }
 

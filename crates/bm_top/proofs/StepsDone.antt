@@ -5,10 +5,9 @@ use Rattle.std.proofs.lemmas.List.{append-nil}
 use Rattle.std.specs.declared.alloc.Global.{Global}
 use Rattle.bm_term.proofs.Elements.{Contains-head, Contains-tail}
 use Rattle.bm_world.specs.declared.world.Faults.{Faults}
-use Rattle.bm_world.specs.Meanings.{Files, Meanings, file_at, with_opened, with_printed}
+use Rattle.bm_world.specs.Meanings.{Files, Meanings, file_at, with_opened}
 use Rattle.bm_world.specs.Reading.{ReadsAll}
-use Rattle.bm_world.specs.World.{Step, Rose, IsMissing, AppendsAll}
-use Rattle.bm_world.specs.declared.world.Failed.{Failed}
+use Rattle.bm_world.specs.World.{Step, Rose, IsMissing}
 use Rattle.bm_world.specs.declared.reading.ReadEnd.{ReadEnd}
 use Rattle.bm_world.specs.declared.reading.ReadEnd.TheVariants as read_ends
 use Rattle.bm_world.proofs.Steps.{rose_later}
@@ -20,23 +19,54 @@ use Rattle.bm_top.specs.steps.Decide.{IsDecided}
 use Rattle.bm_top.specs.Lines.{read_fault_line, limit_line}
 use Rattle.bm_top.specs.Run.{OpensInTurn}
 use Rattle.bm_top.specs.Verdict.{Verdict, answered, refused, files_after}
-use Rattle.bm_top.specs.steps.VerdictOf.{reading, reading_file}
-use Rattle.bm_top.specs.steps.Ending.{EndsSo, ReadsOnly, Leaves, HasReason, Reason, after_deciding, after_printing, after_reading}
+use Rattle.bm_top.specs.steps.VerdictOf.{decided, reading, reading_file}
+use Rattle.bm_top.specs.steps.Printing.{after_writing}
+use Rattle.result_write.specs.declared.form.Form.{Form}
+use Rattle.result_write.specs.declared.form.WriteEnd.{WriteEnd}
+use Rattle.result_write.specs.declared.form.WriteEnd.TheVariants as write_ends
+use Rattle.result_write.specs.Printing.{HasWriteCause, Prints}
+use Rattle.bm_top.specs.steps.Ending.{EndsSo, ReadsOnly, Leaves, HasReason, Reason, after_deciding, after_reading}
+
+-- nothing was printed yet
+Leaves-nothing : (text : List ℕ) (m n : Meanings) → ReadsOnly m n → Leaves m.files (take 0 text) m n
+Leaves-nothing text m n read = read ∙ ap (λ printed. record m { opened = n.opened; rest = n.rest; printed = printed }) (sym (append-nil m.printed))
+
+-- memory ran out before anything was printed
+pub EndsSo-memory : (verdict : Verdict) (m n : Meanings) → ReadsOnly m n → EndsSo verdict ends.Memory m n
+EndsSo-memory verdict m n read = (0, Leaves-nothing verdict.text m n read)
 
 -- the text has been printed, or some front of it
-pub EndsSo-printing : (verdict : Verdict) (text : List ℕ) (printed : Result (Unit {0}) Failed) (m n : Meanings) → verdict ≡ answered text → AppendsAll with_printed text printed m n → EndsSo verdict (after_printing printed) m n
-EndsSo-printing verdict text (Ok u) m n is moved =
+pub EndsSo-written : (verdict : Verdict) (text : List ℕ) (written : Result (Unit {0}) WriteEnd) (m n : Meanings) → verdict ≡ answered text → Prints text written m n → EndsSo verdict (after_writing written) m n
+EndsSo-written verdict text (Ok u) m n is moved =
     let P : Meanings → Type 0 = λ k. Leaves m.files text m k in
     rw is (refl, subst P (sym moved) refl)
-EndsSo-printing verdict text (Err e) m n is (count, moved) =
+EndsSo-written verdict text (Err write_ends.Failed) m n is (count, moved) =
     let P : Meanings → Type 0 = λ k. Leaves m.files (take count text) m k in
     rw is (refl, (m.files, count, inl refl, subst P (sym moved) refl))
+EndsSo-written verdict text (Err write_ends.Memory) m n is (count, moved) =
+    let P : Meanings → Type 0 = λ k. Leaves m.files (take count text) m k in
+    rw is (count, subst P (sym moved) refl)
+
+-- why not all of it was
+pub HasReason-written : (verdict : Files → Verdict) (told : Option Meanings) (before now : Faults) (written : Result (Unit {0}) WriteEnd) → HasWriteCause before.writes now.writes written → now.reads ≡ before.reads → now.says ≡ before.says → HasReason verdict [] told before now (after_writing written)
+HasReason-written verdict told before now written cause reads says = record {
+  reads_later = omega (arith, reads);
+  writes_later = cause.later;
+  says_stay = says;
+  reason = why written cause;
+}
+  where
+    why : (written : Result (Unit {0}) WriteEnd) → HasWriteCause before.writes now.writes written → Reason verdict [] told before now (after_writing written)
+    why (Ok u) cause = tt
+    why (Err write_ends.Failed) cause = cause.failed refl
+    why (Err write_ends.Memory) cause = tt
 
 -- nothing has moved, and there is no text
-pub EndsSo-undecided : (verdict : Verdict) (why : Undecided) (m : Meanings) → IsDecided verdict (Err why) → EndsSo verdict (after_deciding why) m m
-EndsSo-undecided verdict (undecided.BadLine line) m is = (is, refl)
-EndsSo-undecided verdict (undecided.Query refusal) m is = (is, refl)
-EndsSo-undecided verdict undecided.Memory m is = refl
+pub EndsSo-undecided : (form : Form) (bytes text : List ℕ) (why : Undecided) (m : Meanings) → IsDecided bytes text (Err why) → EndsSo (decided form bytes text) (after_deciding why) m m
+EndsSo-undecided form bytes text (undecided.BadLine line) m is = (is form, refl)
+EndsSo-undecided form bytes text undecided.TooManyTriples m is = (is form, refl)
+EndsSo-undecided form bytes text (undecided.Query refusal) m is = (is form, refl)
+EndsSo-undecided form bytes text undecided.Memory m is = EndsSo-memory (decided form bytes text) m m refl
 
 -- what is opened and what is left to read changed before
 pub EndsSo-after_read : (verdict : Verdict) (ending : Ending) (m k n : Meanings) → ReadsOnly m k → EndsSo verdict ending k n → EndsSo verdict ending m n
@@ -68,9 +98,9 @@ pub OpensInTurn-same : (names : List (List ℕ)) (m n : Meanings) → n.opened �
 OpensInTurn-same names m n same = (0, same ∙ sym (append-nil m.opened))
 
 -- printing opens no file
-pub OpensInTurn-printing : (names : List (List ℕ)) (text : List ℕ) (printed : Result (Unit {0}) Failed) (m n : Meanings) → AppendsAll with_printed text printed m n → OpensInTurn names m n
-OpensInTurn-printing names text (Ok u) m n moved = OpensInTurn-same names m n (ap (λ (w : Meanings). w.opened) moved)
-OpensInTurn-printing names text (Err e) m n (count, moved) = OpensInTurn-same names m n (ap (λ (w : Meanings). w.opened) moved)
+pub OpensInTurn-written : (names : List (List ℕ)) (text : List ℕ) (written : Result (Unit {0}) WriteEnd) (m n : Meanings) → Prints text written m n → OpensInTurn names m n
+OpensInTurn-written names text (Ok u) m n moved = OpensInTurn-same names m n (ap (λ (w : Meanings). w.opened) moved)
+OpensInTurn-written names text (Err e) m n (count, moved) = OpensInTurn-same names m n (ap (λ (w : Meanings). w.opened) moved)
 
 -- one file is opened, and then those that are left
 pub OpensInTurn-more : (name : List ℕ) (names : List (List ℕ)) (m k n : Meanings) → k.opened ≡ m.opened ++ name ∷ [] → OpensInTurn names k n → OpensInTurn (name ∷ names) m n
@@ -126,7 +156,7 @@ module _ (name : List ℕ) (names : List (List ℕ)) (limit : ℕ) (next : Files
   -- the file was not read to its end
   pub EndsSo-unread : (m k : Meanings) (end : ReadEnd) (shown : Bor (List ℕ)) → shown.now ≡ name → ReadsAll name limit (Err end) m k → EndsSo (verdict m.files) (after_reading end shown limit) m k
   EndsSo-unread m k read_ends.Fault shown is read = ReadsOnly-reading name limit (Err read_ends.Fault) m k read
-  EndsSo-unread m k read_ends.Memory shown is read = ReadsOnly-reading name limit (Err read_ends.Memory) m k read
+  EndsSo-unread m k read_ends.Memory shown is read = EndsSo-memory (verdict m.files) m k (ReadsOnly-reading name limit (Err read_ends.Memory) m k read)
   EndsSo-unread m k read_ends.TooLong shown is (came, (read, long)) =
       (rw is (too_long name limit (file_at m name) (next m.files) came read.left read.whole long), reads_only_opened name (Some read.left) m k read.moved)
 

@@ -3,6 +3,5 @@ pub mod Command
 pub mod Lines
 pub mod Run
 pub mod Standard
-pub mod Tsv
 pub mod Verdict
 pub mod steps

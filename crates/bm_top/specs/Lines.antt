@@ -16,6 +16,10 @@ max_data_bytes = 536870912
 abbrev pub max_query_bytes : ℕ
 max_query_bytes = 1048576
 
+-- the distinct triples that a graph may have
+abbrev pub max_triples : ℕ
+max_triples = 8388608
+
 abbrev pub usage_line : List ℕ
 usage_line = codes "usage: bitmat ask DATA QUERY tsv|json | load DATA INDEX | query INDEX QUERY tsv|json | check INDEX | explain INDEX QUERY | trial N\n"
 
@@ -30,6 +34,9 @@ out_of_memory_line = codes "out of memory\n"
 
 abbrev pub limit_line : List ℕ → ℕ → List ℕ
 limit_line name limit = codes "limit: " ++ (name ++ (codes " is longer than " ++ (decimal limit ++ codes " bytes\n")))
+
+abbrev pub too_many_triples_line : List ℕ
+too_many_triples_line = codes "limit: more than 8388608 triples\n"
 
 abbrev pub bad_line_line : ℕ → List ℕ
 bad_line_line line = codes "data refused: line " ++ (decimal line ++ codes "\n")
@@ -75,9 +82,11 @@ refusal_status refusals.Usage = 1
 refusal_status (refusals.BadLine line) = 2
 refusal_status (refusals.Query refusal) = 3
 refusal_status (refusals.TooLong name limit) = 8
+refusal_status refusals.TooManyTriples = 8
 
 abbrev pub refusal_line : Refusal → List ℕ
 refusal_line refusals.Usage = usage_line
 refusal_line (refusals.BadLine line) = bad_line_line line
 refusal_line (refusals.Query refusal) = query_line refusal
 refusal_line (refusals.TooLong name limit) = limit_line name.now limit
+refusal_line refusals.TooManyTriples = too_many_triples_line

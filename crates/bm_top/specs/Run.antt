@@ -4,6 +4,7 @@ use Rattle.std.specs.Prelude.{◌≡◌, ◌≢◌, ◌⊎◌, ℕ, ◌++◌, Li
 use Rattle.bm_world.specs.declared.world.Faults.{Faults}
 use Rattle.bm_world.specs.Meanings.{Meanings}
 use Rattle.bm_world.specs.World.{Rose, Step}
+use Rattle.result_write.specs.declared.form.Form.{Form}
 use Rattle.bm_top.specs.Command.{names_read, request_of}
 use Rattle.bm_top.specs.Lines.{read_fault_line, write_fault_line, out_of_memory_line}
 use Rattle.bm_top.specs.Standard.{Asks, IsAnswer, IsVerdict}
@@ -69,7 +70,7 @@ OnlyComplains m n = n ≡ record m { complained = n.complained }
 
 -- all that the program promises for these words, between its entry and its exit
 pub record KeepsPromises (words : List (List ℕ)) (told told_now : Option Meanings) (before now : Faults) (status : ℕ) : Type 0 where
-  pub answers : Step told told_now (λ m n. (bytes text printed : List ℕ) → Asks words m.files bytes text → IsAnswer bytes text printed → Prints printed before now status m n)
+  pub answers : Step told told_now (λ m n. (form : Form) (bytes text printed : List ℕ) → Asks words m.files form bytes text → IsAnswer form bytes text printed → Prints printed before now status m n)
   pub usage : request_of words ≡ None → status ≡ 1
   pub usage_moves_nothing : Step told told_now (λ m n. request_of words ≡ None → OnlyComplains m n)
   pub complete : Step told told_now (λ m n. (verdict : Verdict) → IsVerdict words m.files verdict → IsComplete verdict before now status)

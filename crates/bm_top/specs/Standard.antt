@@ -12,10 +12,11 @@ use Rattle.sparql_parse.specs.declared.fault.QueryFault.{QueryFault}
 use Rattle.sparql_parse.specs.Denotes.{Denotes, IsFaultOf}
 use Rattle.well_designed.specs.declared.refusals.Refusal.{Refusal}
 use Rattle.well_designed.specs.Refusals.{IsAccepted, IsRefused}
+use Rattle.result_write.specs.declared.form.Form.{Form}
+use Rattle.result_write.specs.ResultText.{result_text}
 use Rattle.bm_world.specs.Meanings.{Files}
 use Rattle.bm_top.specs.Command.{ask, request_of}
-use Rattle.bm_top.specs.Lines.{max_data_bytes, max_query_bytes, usage_line, read_fault_line, limit_line, bad_line_line, fault_line, pattern_line}
-use Rattle.bm_top.specs.Tsv.{tsv_text}
+use Rattle.bm_top.specs.Lines.{max_data_bytes, max_query_bytes, max_triples, usage_line, read_fault_line, limit_line, too_many_triples_line, bad_line_line, fault_line, pattern_line}
 use Rattle.bm_top.specs.Verdict.{Verdict, answered, refused}
 
 -- the bytes are N-Triples: lines between line ends, which spell these triples one after another
@@ -24,16 +25,21 @@ pub record AreNTriples (bytes : List ℕ) (triples : List Triple) : Type 0 where
   pub are_lines : AreLines bytes lines
   pub spelled : SpellTriples lines triples
 
--- the text of the solutions of an accepted query over the set of triples of the data
-pub record IsAnswer (bytes text printed : List ℕ) : Type 0 where
+-- the graph is the set of the triples of the data
+pub record IsGraphOf (bytes : List ℕ) (graph : List Triple) : Type 0 where
   pub triples : List Triple
-  pub graph : List Triple
-  pub query : AbstractQuery
   pub are_triples : AreNTriples bytes triples
   pub is_graph : IsGraph triples graph
+
+-- the text, in a form, of the solutions of an accepted query over the set of triples of the data, which keeps its limit
+pub record IsAnswer (form : Form) (bytes text printed : List ℕ) : Type 0 where
+  pub graph : List Triple
+  pub query : AbstractQuery
+  pub is_graph : IsGraphOf bytes graph
+  pub few : length graph ≤ max_triples
   pub denoted : Denotes text query
   pub accepted : IsAccepted query.pattern
-  pub is_text : printed ≡ tsv_text query (answers_to query graph)
+  pub is_text : printed ≡ result_text form query (answers_to query graph)
 
 -- the line of the first bad line of the data
 pub record IsBadData (bytes line : List ℕ) : Type 0 where
@@ -47,10 +53,17 @@ pub data IsRefusedText (text line : List ℕ) : Type 0 where
   has_pattern : (query : AbstractQuery) (refusal : Refusal) → Denotes text query → IsRefused query.pattern refusal
       → line ≡ pattern_line query.names refusal → IsRefusedText text line
 
--- the line of the refusal of a query over data without a bad line
+-- the data has no bad line, and more distinct triples than may be
+pub record HasTooManyTriples (bytes : List ℕ) : Type 0 where
+  pub graph : List Triple
+  pub is_graph : IsGraphOf bytes graph
+  pub many : max_triples < length graph
+
+-- the line of the refusal of a query over data that is taken
 pub record IsRefusal (bytes text line : List ℕ) : Type 0 where
-  pub triples : List Triple
-  pub are_triples : AreNTriples bytes triples
+  pub graph : List Triple
+  pub is_graph : IsGraphOf bytes graph
+  pub few : length graph ≤ max_triples
   pub is_refused : IsRefusedText text line
 
 -- The verdict of a command: the first step in its order that has a condition that holds.
@@ -62,28 +75,30 @@ pub data IsDecidedBy (files : Files) (name : List ℕ) (limit : ℕ) (Next : Lis
       → IsDecidedBy files name limit Next verdict
   read : (bytes : List ℕ) → get files name ≡ Some bytes → length bytes ≤ limit → Next bytes verdict → IsDecidedBy files name limit Next verdict
 
--- data and a query: a bad line of the data, then a refusal of the query, and otherwise the answer
-pub data IsAnswerOrRefusal (bytes text : List ℕ) (verdict : Verdict) : Type 0 where
-  bad_data : (line : List ℕ) → IsBadData bytes line → verdict ≡ refused 2 line → IsAnswerOrRefusal bytes text verdict
-  bad_query : (line : List ℕ) → IsRefusal bytes text line → verdict ≡ refused 3 line → IsAnswerOrRefusal bytes text verdict
-  answer : (printed : List ℕ) → IsAnswer bytes text printed → verdict ≡ answered printed → IsAnswerOrRefusal bytes text verdict
+-- data and a query: a bad line of the data, then too many triples, then a refusal of the query, and otherwise the answer
+pub data IsAnswerOrRefusal (form : Form) (bytes text : List ℕ) (verdict : Verdict) : Type 0 where
+  bad_data : (line : List ℕ) → IsBadData bytes line → verdict ≡ refused 2 line → IsAnswerOrRefusal form bytes text verdict
+  too_many : HasTooManyTriples bytes → verdict ≡ refused 8 too_many_triples_line → IsAnswerOrRefusal form bytes text verdict
+  bad_query : (line : List ℕ) → IsRefusal bytes text line → verdict ≡ refused 3 line → IsAnswerOrRefusal form bytes text verdict
+  answer : (printed : List ℕ) → IsAnswer form bytes text printed → verdict ≡ answered printed → IsAnswerOrRefusal form bytes text verdict
 
--- `ask DATA QUERY tsv`: DATA is read, then QUERY, and then both are looked at
-abbrev pub IsAskVerdict : Files → List ℕ → List ℕ → Verdict → Type 0
-IsAskVerdict files data_name query_name verdict =
-    IsDecidedBy files data_name max_data_bytes (λ bytes. IsDecidedBy files query_name max_query_bytes (IsAnswerOrRefusal bytes)) verdict
+-- `ask DATA QUERY FORM`: DATA is read, then QUERY, and then both are looked at
+abbrev pub IsAskVerdict : Files → List ℕ → List ℕ → Form → Verdict → Type 0
+IsAskVerdict files data_name query_name form verdict =
+    IsDecidedBy files data_name max_data_bytes (λ bytes. IsDecidedBy files query_name max_query_bytes (IsAnswerOrRefusal form bytes)) verdict
 
 -- the verdict of these words on these files
 pub data IsVerdict (words : List (List ℕ)) (files : Files) (verdict : Verdict) : Type 0 where
   usage : request_of words ≡ None → verdict ≡ refused 1 usage_line → IsVerdict words files verdict
-  asks : (data_name query_name : List ℕ) → request_of words ≡ Some (ask data_name query_name) → IsAskVerdict files data_name query_name verdict
+  asks : (data_name query_name : List ℕ) (form : Form) → request_of words ≡ Some (ask data_name query_name form)
+      → IsAskVerdict files data_name query_name form verdict
       → IsVerdict words files verdict
 
--- the words ask the query of one file over the data of another; both are there, and keep their limits
-pub record Asks (words : List (List ℕ)) (files : Files) (bytes text : List ℕ) : Type 0 where
+-- the words ask the query of one file over the data of another, in a form; both are there, and keep their limits
+pub record Asks (words : List (List ℕ)) (files : Files) (form : Form) (bytes text : List ℕ) : Type 0 where
   pub data_name : List ℕ
   pub query_name : List ℕ
-  pub command : request_of words ≡ Some (ask data_name query_name)
+  pub command : request_of words ≡ Some (ask data_name query_name form)
   pub data_file : get files data_name ≡ Some bytes
   pub query_file : get files query_name ≡ Some text
   pub data_within : length bytes ≤ max_data_bytes

@@ -1,6 +1,6 @@
 pub mod Data
 pub mod Decide
 pub mod Ending
+pub mod Printing
 pub mod Requested
-pub mod RowOrder
 pub mod VerdictOf

@@ -1,6 +1,6 @@
 //! Whether a query is accepted, whatever the data: its pattern is well designed, and its variables are at places that are
 //! answered.
-ghost use Rattle.std.specs.Prelude.{◌≡◌, ◌<◌, length, slice_index_or, string_bytes, IfOk};
+ghost use Rattle.std.specs.Prelude.{◌≡◌, ◌<◌, [], length, slice_index_or, string_bytes, IfOk};
 ghost use Rattle.alg_model.specs.Limits.{KeepsLimits};
 ghost use Rattle.alg_model.specs.Query.{abstract_of};
 ghost use Rattle.bm_top.specs.Lines.{pattern_line, query_line};

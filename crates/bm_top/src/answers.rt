@@ -1,74 +1,38 @@
-ghost use Rattle.std.specs.Prelude.{◌≡◌, ◌<◌, ◌≤◌, ◌≢◌, [], false, map, length, slice_index_or, All, AllPairs, IfOk};
-ghost use Rattle.std.specs.Option.{option_map};
-ghost use Rattle.bm_term.specs.TermRef.{text_of};
-ghost use Rattle.alg_model.specs.Answers.{project, answers_of};
-ghost use Rattle.alg_model.specs.Pattern.{algebra_of, HasVarsBelow};
+//! The answers of an accepted query over a graph.
+ghost use Rattle.std.specs.Prelude.{◌≡◌, ◌≢◌, length, All, AllPairs, IfOk, IsPermutation};
+ghost use Rattle.bm_top.specs.steps.Printing.{IsEvaluated};
+ghost use Rattle.alg_model.specs.Answers.{arranged};
+ghost use Rattle.alg_model.specs.Limits.{KeepsLimits};
 
-use crate::answer_row::AnswerRow;
-use alg_model::{Columns, Query, RowList, eval_plain};
-use bm_term::{Term, TermRef, Triple};
+use alg_model::{Query, RowList, eval_plain};
+use answer_rows::{TextRows, project_sort};
+use bm_term::Triple;
 use std::alloc::{AllocError, Global};
 
-/// The answers of a query over a graph: the rows of its pattern, cut to its columns, in order, with each row
-/// once where the query says DISTINCT (SPARQL 1.1 Query, section 18.2.5).
-pub(crate) fn answers(
+/// The rows of a query's pattern over a graph (SPARQL 1.1 Query, section 18.5).
+pub(crate) fn evaluated(
     alloc: Global,
     query: &Query,
     graph: &[Triple],
-) -> Result<Vec<AnswerRow>, AllocError>
-    requires few_names { length query.now.names ≤ 64 }
-    requires vars_below { HasVarsBelow (length query.now.names) (algebra_of query.now.pattern) }
-    requires columns_below { All (λ column. column.0 < length query.now.names) query.now.columns }
+) -> Result<RowList, AllocError>
+    requires limits { KeepsLimits query.now }
     requires each_once { AllPairs (λ t u. t ≢ u) graph.now }
-    ensures { IfOk result (λ answers. answers.items ≡ answers_of query.now graph.now) }
+    ensures { IfOk result (IsEvaluated query.now graph.now) }
 {
-    let vars = query.names.len() as u8;
-    let rows = eval_plain(alloc, &query.pattern, vars, graph)?;
-    let mut answers = project_rows(alloc, &rows, &query.columns)?;
-    answers.sort()?;
-    if query.distinct {
-        answers.dedup();
-    }
-    Ok(answers)
+    eval_plain(alloc, &query.pattern, query.names.len() as u8, graph)
 }
 
-fn project_rows(
+/// The answers of a query, from the rows of its pattern: cut to the columns and in order (section 18.2.5). They borrow
+/// their terms from the rows.
+pub(crate) fn answers<'r>(
     alloc: Global,
-    rows: &RowList,
-    columns: &Columns,
-) -> Result<Vec<AnswerRow>, AllocError>
-    requires { All (λ row. All (λ column. column.0 < length row) columns.now) rows.now }
-    ensures { IfOk result (λ projected. projected.items ≡ map (project columns.now) rows.now) }
+    query: &Query,
+    rows: &'r RowList,
+) -> Result<TextRows<'r>, AllocError>
+    requires limits { KeepsLimits query.now }
+    requires width { All (λ row. length row ≡ length query.now.names) rows.now }
+    ensures { IfOk result (λ answers. answers.rows ≡ arranged query.now.columns query.now.distinct rows.now) }
 {
-    let mut projected = Vec::new(alloc);
-    for row in 0..rows.len() {
-        projected.push(project_row(alloc, rows, row, columns)?)?;
-    }
-    Ok(projected)
-}
-
-fn project_row(
-    alloc: Global,
-    rows: &RowList,
-    row: usize,
-    columns: &Columns,
-) -> Result<AnswerRow, AllocError>
-    requires exists { row < length rows.now }
-    requires columns_exist { All (λ column. column.0 < length (slice_index_or rows.now row [])) columns.now }
-    ensures { IfOk result (λ answer. answer ≡ project columns.now (slice_index_or rows.now row [])) }
-{
-    let mut answer = AnswerRow::new(alloc);
-    for i in 0..columns.len() {
-        answer.push(copy_cell(alloc, rows.cell(row, columns.get(i)))?)?;
-    }
-    Ok(answer)
-}
-
-fn copy_cell(alloc: Global, cell: Option<TermRef<'_>>) -> Result<Option<Term>, AllocError>
-    ensures { IfOk result (λ copy. copy ≡ option_map text_of cell.entry) }
-{
-    match cell {
-        Some(term) => Ok(Some(Term::copy_of(alloc, term)?)),
-        None => Ok(None),
-    }
+    let rows = TextRows::from_list(alloc, rows, query.names.len() as u8)?;
+    project_sort(alloc, rows, query)
 }

@@ -18,6 +18,8 @@ const WRITE_FAULT: &[u8] = b"write fault\n";
 
 const OUT_OF_MEMORY: &[u8] = b"out of memory\n";
 
+const TOO_MANY_TRIPLES: &[u8] = b"limit: more than 8388608 triples\n";
+
 const REFUSED: &[u8] = b"query refused: ";
 
 const LINE_END: &[u8] = b"\n";
@@ -50,6 +52,7 @@ fn complain_refusal<W: World>(refusal: &Refusal<'_>, world: &mut W) -> Result<()
     match refusal {
         Refusal::Usage => complain_all(world, USAGE),
         Refusal::Query { refusal } => complain_query(refusal, world),
+        Refusal::TooManyTriples => complain_all(world, TOO_MANY_TRIPLES),
         Refusal::BadLine { line } => {
             complain_pieces(
                 world,

@@ -1,20 +1,32 @@
-ghost use Rattle.bm_top.specs.steps.VerdictOf.{decided};
-ghost use Rattle.bm_top.specs.steps.Decide.{IsDecided, from_data, from_query};
+//! What is asked once both files have been read, or why there is no answer.
+ghost use Rattle.bm_top.specs.steps.Decide.{IsDecided, from_data, from_numbers, from_query};
 
 use crate::accept::accept;
-use crate::answers::answers;
 use crate::data::read_data;
 use crate::graph::graph;
 use crate::refusal::QueryRefusal;
-use crate::tsv::tsv;
+use alg_model::Query;
+use bm_term::Triple;
 use nt_read::FeedFault;
 use sparql_parse::{QueryFault, parse_query};
 use std::alloc::{AllocError, Global};
+use term_numbers::{NumberFault, number};
 
-/// Why there is no text to print.
+/// The distinct triples that a graph may have.
+const MAX_TRIPLES: u32 = 8_388_608;
+
+/// An accepted query, and the graph over which it is asked.
+#[derive(Debug, Drop)]
+pub(crate) struct Asked {
+    pub(crate) query: Query,
+    pub(crate) graph: Vec<Triple>,
+}
+
+/// Why there is no answer.
 #[derive(Debug, Drop)]
 pub(crate) enum Undecided {
     BadLine { line: u64 },
+    TooManyTriples,
     Query { refusal: QueryRefusal },
     Memory,
 }
@@ -29,6 +41,20 @@ impl From<FeedFault> for Undecided {
         match fault {
             FeedFault::NotNTriples { line } => Undecided::BadLine { line },
             FeedFault::Memory => Undecided::Memory,
+        }
+    }
+}
+
+impl From<NumberFault> for Undecided {
+    ghost use Rattle.std.specs.Prelude.{◌≡◌};
+    ghost use Rattle.bm_top.specs.steps.Decide.{from_numbers};
+
+    ghost from_gives = { λ fault undecided. undecided ≡ from_numbers fault };
+
+    fn from(fault: NumberFault) -> Self {
+        match fault {
+            NumberFault::TooManyTriples => Undecided::TooManyTriples,
+            NumberFault::Memory => Undecided::Memory,
         }
     }
 }
@@ -60,17 +86,17 @@ impl From<AllocError> for Undecided {
     }
 }
 
-/// The text that answers a query over data, or why there is none: the first bad line, and then the refusal of the query.
-/// The data is
-/// let go once its triples are read.
-pub(crate) fn decide(alloc: Global, data: Vec<u8>, query: &[u8]) -> Result<Vec<u8>, Undecided>
-    ensures { IsDecided (decided «data».items query.now) result }
+/// The query that is asked and its graph, or why there is no answer: the first bad line, then too many triples, and then
+/// the refusal of the query. The data is let go once its triples are read.
+pub(crate) fn decide(alloc: Global, data: Vec<u8>, query: &[u8]) -> Result<Asked, Undecided>
+    ensures { IsDecided «data».items query.now result }
 {
     let triples = read_data(alloc, &data)?;
     drop(data);
+    let numbers = number(alloc, &triples, MAX_TRIPLES)?;
+    drop(numbers);
     let query = parse_query(alloc, query)?;
     accept(alloc, &query)?;
     let graph = graph(alloc, triples)?;
-    let answers = answers(alloc, &query, &graph)?;
-    Ok(tsv(alloc, &query, &answers)?)
+    Ok(Asked { query, graph })
 }

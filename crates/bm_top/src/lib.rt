@@ -2,7 +2,6 @@
 #![tactic(auto)]
 
 mod accept;
-mod answer_row;
 mod answers;
 mod args;
 mod command;
@@ -15,7 +14,6 @@ mod laws;
 mod refusal;
 mod steps;
 mod top;
-mod tsv;
 
 pub use args::run_args;
 pub use laws::each_command_has_one_verdict;

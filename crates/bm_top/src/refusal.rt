@@ -25,6 +25,8 @@ pub(crate) enum Refusal<'a> {
     Query { refusal: QueryRefusal },
     /// A file has more bytes than its limit.
     TooLong { name: &'a str, limit: u64 },
+    /// The data has more distinct triples than may be.
+    TooManyTriples,
 }
 
 impl Refusal<'_> {
@@ -39,7 +41,7 @@ impl Refusal<'_> {
             Refusal::Usage => 1,
             Refusal::BadLine { .. } => 2,
             Refusal::Query { .. } => 3,
-            Refusal::TooLong { .. } => 8,
+            Refusal::TooLong { .. } | Refusal::TooManyTriples => 8,
         }
     }
 }

@@ -1,6 +1,7 @@
 ghost use Rattle.std.specs.Prelude.{◌≡◌, ◌≢◌, ℕ, List, None, map};
 ghost use Rattle.std.specs.String.{string_bytes};
 ghost use Rattle.bm_world.specs.World.{Step};
+ghost use Rattle.result_write.specs.declared.form.Form.{Form};
 ghost use Rattle.bm_top.specs.Command.{names_read, request_of};
 ghost use Rattle.bm_top.specs.Run.{Complains, HasCauses, IsComplete, IsHonest, KeepsPromises, LeavesFiles, OnlyComplains, OpensInTurn, Outputs, Prints};
 ghost use Rattle.bm_top.specs.Standard.{Asks, IsAnswer, IsVerdict};
@@ -15,15 +16,15 @@ use std::alloc::Global;
 /// Does everything that the program does. `words` are the words after the program's name. The result is
 /// the status: 0 where the answers were printed; 1 where the words are no command; 2 where the data has a
 /// bad line; 3 where the query is refused; 5 where a file was not read, and 6 where the output was not
-/// written; 7 where memory ran out; 8 where a file is too long.
+/// written; 7 where memory ran out; 8 where a file is too long, or the data has too many triples.
 ///
 /// Each words and files have exactly one verdict (`each_command_has_one_verdict`). Clauses that speak of files or of
 /// what was printed hold where the world tells its content when the call begins and when it ends.
 pub fn run<W: World>(alloc: Global, words: &[String], world: &mut W) -> u8
-    // The headline: what is printed is the text of the solutions of the query that the one file denotes, over the set
-    // of triples that the other spells.
-    ensures answers { Step (W.told world.old) (W.told world.new) (λ m n. (bytes text printed : List ℕ) →
-        Asks (map string_bytes words.now) m.files bytes text → IsAnswer bytes text printed →
+    // The headline: what is printed is the text, in the form that is asked for, of the solutions of the query that the
+    // one file denotes, over the set of triples that the other spells.
+    ensures answers { Step (W.told world.old) (W.told world.new) (λ m n. (form : Form) (bytes text printed : List ℕ) →
+        Asks (map string_bytes words.now) m.files form bytes text → IsAnswer form bytes text printed →
         Prints printed (W.faults world.old) (W.faults world.new) result m n) }
 
     // Words that are no command: status 1, and nothing moves but standard error.

@@ -1,9 +1,8 @@
 -- Carries proofs only: how a command ended, and what is known then.
-use Rattle.std.specs.Prelude.{◌≡◌, ◌⊎◌, ℕ, ◌≤◌, List, [], ◌++◌, take, Contains, Option, Result, Ok, Err, IsSomeAnd}
+use Rattle.std.specs.Prelude.{◌≡◌, ◌⊎◌, ℕ, ◌≤◌, List, [], ◌++◌, take, Contains, Option, IsSomeAnd}
 use Rattle.std.specs.Borrow.{Bor}
 use Rattle.bm_world.specs.declared.world.Faults.{Faults}
 use Rattle.bm_world.specs.Meanings.{Files, Meanings}
-use Rattle.bm_world.specs.declared.world.Failed.{Failed}
 use Rattle.bm_world.specs.declared.reading.ReadEnd.{ReadEnd}
 use Rattle.bm_world.specs.declared.reading.ReadEnd.TheVariants as read_ends
 use Rattle.bm_world.specs.World.{Rose}
@@ -46,7 +45,7 @@ EndsSo verdict (ends.Refused refusal) m n = (verdict ≡ refused (refusal_status
 EndsSo verdict (ends.ReadFault name) m n = ReadsOnly m n
 EndsSo verdict ends.WriteFault m n =
     (verdict.status ≡ 0) × ((files : Files) × (count : ℕ) × HasFrontOf verdict m.files files × Leaves files (take count verdict.text) m n)
-EndsSo verdict ends.Memory m n = ReadsOnly m n
+EndsSo verdict ends.Memory m n = (count : ℕ) × Leaves m.files (take count verdict.text) m n
 
 -- what shows that a call failed, where one did; a file that was not read is among these names
 abbrev pub Reason : (Files → Verdict) → List (List ℕ) → Option Meanings → Faults → Faults → Ending → Type 0
@@ -66,10 +65,6 @@ pub record HasReason (verdict : Files → Verdict) (names : List (List ℕ)) (to
 
 -- How a command ends, by what the outside or the pure part answered.
 
-abbrev pub after_printing : Result (Unit {0}) Failed → Ending
-after_printing (Ok _) = ends.Done
-after_printing (Err _) = ends.WriteFault
-
 abbrev pub after_reading : ReadEnd → Bor (List ℕ) → ℕ → Ending
 after_reading read_ends.Fault name limit = ends.ReadFault name
 after_reading read_ends.TooLong name limit = ends.Refused (refusals.TooLong name limit)
@@ -77,5 +72,6 @@ after_reading read_ends.Memory name limit = ends.Memory
 
 abbrev pub after_deciding : Undecided → Ending
 after_deciding (undecided.BadLine line) = ends.Refused (refusals.BadLine line)
+after_deciding undecided.TooManyTriples = ends.Refused refusals.TooManyTriples
 after_deciding (undecided.Query refusal) = ends.Refused (refusals.Query refusal)
 after_deciding undecided.Memory = ends.Memory

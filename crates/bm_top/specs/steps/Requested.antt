@@ -3,4 +3,4 @@ use Rattle.bm_top.specs.declared.command.Command.{Command}
 use Rattle.bm_top.specs.Command.{Request, ask}
 
 abbrev pub requested : Command → Request
-requested command = ask command.data.now command.query.now
+requested command = ask command.data.now command.query.now command.form
