@@ -1,12 +1,12 @@
 -- Worked examples.
-use Rattle.std.proofs.Common.{◌≡◌, ◌≢◌, ℕ, zero, suc, ◌<◌, List, [], ◌∷◌, get_or, All, AllPairs, IsUtf8, IsAscii, Option, Some, None, true, false, codes, refl, sym, ◌∙◌, ap, subst, arith, lit≤, lit<}
+use Rattle.std.proofs.Common.{◌≡◌, ◌≢◌, ℕ, zero, suc, ◌<◌, List, [], ◌∷◌, get_or, All, AllPairs, IsUtf8, IsAscii, Some, None, true, false, codes, refl, sym, ◌∙◌, ap, arith, lit≤, lit<}
 use Rattle.std.proofs.lemmas.List.Elements.{All-nil, All-cons}
 use Rattle.std.proofs.lemmas.Str.{IsUtf8-from_ascii}
 use Rattle.bm_term.proofs.Elements.{Contains-single}
 use Rattle.alg_model.proofs.Lists.{AllPairs-append, AllPairs-option}
 use Rattle.alg_model.specs.declared.var.Var.{Var}
 use Rattle.alg_model.specs.declared.query.Query.{Query}
-use Rattle.alg_model.specs.Pattern.{Bgp, Algebra, algebra_of}
+use Rattle.alg_model.specs.Pattern.{Bgp, algebra_of}
 use Rattle.alg_model.specs.Row.{Row}
 use Rattle.alg_model.specs.Answers.{arranged}
 use Rattle.alg_model.specs.Limits.{KeepsLimits, PatternKeepsLimits}
