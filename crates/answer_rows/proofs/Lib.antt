@@ -1,4 +1,5 @@
 mod Cuts
+mod Examples
 mod FewColumns
 mod Kept
 mod Lists
