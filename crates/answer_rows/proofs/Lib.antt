@@ -1,0 +1,4 @@
+mod Cuts
+mod FewColumns
+mod Kept
+mod Lists
