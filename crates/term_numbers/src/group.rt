@@ -7,6 +7,7 @@ ghost use Rattle.term_numbers.specs.held.Entries.{entries_from, AreSplit, AreGro
 use crate::entry::Entry;
 use crate::fault::number_from;
 use crate::role::{Role, roles};
+use crate::sort::sorted;
 use crate::text::Text;
 use std::alloc::{AllocError, Global};
 
@@ -29,11 +30,12 @@ pub(crate) fn group_nodes<'a>(
     ensures { IfOk result (λ groups. AreGroups nodes.now triples.now groups.shared.items groups.subjects.items groups.objects.items) }
 {
     let roles = roles(alloc, triples, nodes.len())?;
-    let mut groups = split(alloc, nodes, &roles)?;
-    groups.shared.sort_unstable();
-    groups.subjects.sort_unstable();
-    groups.objects.sort_unstable();
-    Ok(groups)
+    let groups = split(alloc, nodes, &roles)?;
+    Ok(Groups {
+        shared: sorted(alloc, groups.shared)?,
+        subjects: sorted(alloc, groups.subjects)?,
+        objects: sorted(alloc, groups.objects)?,
+    })
 }
 
 /// The nodes by their roles, in the order of first sight.
@@ -74,9 +76,9 @@ pub(crate) fn ascending<'a>(alloc: Global, texts: &[Text<'a>]) -> Result<Vec<Ent
     requires { IsDistinct bytes_eq texts.now }
     ensures { IfOk result (λ entries. IsGroup texts.now anywhere entries.items) }
 {
-    let mut entries = entries(alloc, texts)?;
-    entries.sort_unstable();
-    Ok(entries)
+    let entries = entries(alloc, texts)?;
+    let ascending = sorted(alloc, entries)?;
+    Ok(ascending)
 }
 
 /// All texts with their places.

@@ -9,6 +9,7 @@ mod numbers;
 mod renumber;
 mod role;
 mod seen;
+mod sort;
 mod table;
 mod text;
 
