@@ -56,6 +56,10 @@ pairs_in-flat_map (p ∷ ps) fits =
     pairs_in-pair_bytes p (flat_map pair_bytes ps) fits.0 fits.1 ∙ ap (λ (qs : List (ℕ × ℕ)). p ∷ qs) (pairs_in-flat_map ps fits.2)
 
 -- a pair takes eight bytes
+pub length-pair_bytes : (p : ℕ × ℕ) → length (pair_bytes p) ≡ 8
+unfolding pair_bytes
+length-pair_bytes p = refl
+
 pub length-flat_map-pair_bytes : (ps : List (ℕ × ℕ)) → length (flat_map pair_bytes ps) ≡ 8 * length ps
 unfolding pair_bytes
 length-flat_map-pair_bytes [] = refl
