@@ -90,3 +90,15 @@ pub length-pairs_in-le : (bytes : List ℕ) → 8 * length (pairs_in bytes) ≤ 
 unfolding pairs_in
 length-pairs_in-le (a ∷ b ∷ c ∷ d ∷ e ∷ f ∷ g ∷ h ∷ rest) = omega (arith, length-pairs_in-le rest)
 length-pairs_in-le _ = omega arith
+
+pair_fits : (a b c d e f g h : ℕ) (rest : List ℕ) → IsBytes (a ∷ b ∷ c ∷ d ∷ e ∷ f ∷ g ∷ h ∷ rest) → (from_le_bytes w32 (a ∷ b ∷ c ∷ d ∷ []) < 2 ^ 32) × (from_le_bytes w32 (e ∷ f ∷ g ∷ h ∷ []) < 2 ^ 32)
+pair_fits a b c d e f g h rest fits =
+    (omega (arith, fits 0, fits 1, fits 2, fits 3), omega (arith, fits 4, fits 5, fits 6, fits 7))
+
+-- the numbers of pairs that were read fit
+pub PairsFit32-pairs_in : (bytes : List ℕ) → IsBytes bytes → PairsFit32 (pairs_in bytes)
+unfolding pairs_in
+PairsFit32-pairs_in (a ∷ b ∷ c ∷ d ∷ e ∷ f ∷ g ∷ h ∷ rest) fits =
+    let first = pair_fits a b c d e f g h rest fits in
+    (first.0, first.1, PairsFit32-pairs_in rest (IsBytes-drop 8 (a ∷ b ∷ c ∷ d ∷ e ∷ f ∷ g ∷ h ∷ rest) fits))
+PairsFit32-pairs_in _ fits = tt

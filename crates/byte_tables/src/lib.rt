@@ -12,7 +12,7 @@ mod writing;
 
 pub use numbers::{first_number, number_at, split_number};
 pub use pairs::{first_pair, pair_at, split_pair};
-pub use pieces::{cut_whole, piece_at, piece_of};
+pub use pieces::{between, cut_whole, piece_at, piece_of};
 pub use writing::{push_number, push_numbers, push_pair};
 
 #[cfg(test)]

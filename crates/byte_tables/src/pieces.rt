@@ -34,7 +34,7 @@ pub fn cut_whole(last: u32, starts: &[u8]) -> bool
 }
 
 /// The bytes from one place up to another.
-fn between(bytes: &[u8], start: u32, end: u32) -> &[u8]
+pub fn between(bytes: &[u8], start: u32, end: u32) -> &[u8]
     requires ordered { start ≤ end }
     requires within { end ≤ length bytes.now }
     ensures { result.now ≡ take (end - start) (drop start bytes.now) }
