@@ -5,3 +5,4 @@ pub mod EntryLaws
 pub mod SliceLaws
 pub mod SeekLaws
 pub mod WritingLaws
+pub mod FoldLaws

@@ -3,11 +3,11 @@ use Rattle.std.proofs.Common.{◌≡◌, ◌≢◌, ℕ, zero, suc, ◌+◌, ◌
 use Rattle.std.proofs.lemmas.List.{length-drop, drop-drop, drop_all}
 use Rattle.run_rows.specs.declared.form.RowForm.{RowForm}
 use Rattle.run_rows.specs.Encoding.{row_numbers, IsEncoding}
-use Rattle.cube_slices.specs.Lines.{Line, LinesAscend, line_of}
+use Rattle.cube_slices.specs.Lines.{Line, LinesAscend, line_of, IsPassed}
 use Rattle.cube_slices.specs.Slices.{lines_at, AreEntries}
 use Rattle.byte_tables.specs.Pairs.{pairs_in}
 use Rattle.cube_slices.specs.steps.Shown.{start_at, lines_shown, ShowsLines}
-use Rattle.cube_slices.specs.steps.Seeks.{IsPassed, StartsAt, Seeks, RowAt}
+use Rattle.cube_slices.specs.steps.Seeks.{StartsAt, Seeks, RowAt}
 use Rattle.cube_slices.proofs.LineLaws.{line_of-other, line_of-here, line_of-below, LinesAscend-drop}
 
 -- ---- the line in a place
@@ -93,7 +93,11 @@ Seeks-lower n low high middle l ls after up below at from seeks =
     let within = seeks.within in
     record { ordered = up; within = omega arith; passed = seeks.passed; behind = rw at from }
 
--- a row that is passed stays passed for later rows
+-- before the first place nothing is
+pub IsPassed-start : (n : ℕ) (ls : List Line) → IsPassed n 0 ls
+IsPassed-start n ls m from = refl
+
+-- what is passed for a row is passed for later rows
 pub IsPassed-later : (n m place : ℕ) (ls : List Line) → n ≤ m → IsPassed n place ls → IsPassed m place ls
 IsPassed-later n m place ls up passed k from = passed k (omega arith)
 

@@ -1,5 +1,5 @@
 -- Lines: a sparse matrix as the list of its rows that have a member.
-use Rattle.std.specs.Prelude.{ℕ, ◌+◌, ◌<◌, ◌≤◌, ◌==◌, List, [], ◌∷◌, length, map, Option, Some, None, if◌then◌else◌}
+use Rattle.std.specs.Prelude.{◌≡◌, ℕ, ◌+◌, ◌<◌, ◌≤◌, ◌==◌, List, [], ◌∷◌, length, drop, map, Option, Some, None, if◌then◌else◌}
 use Rattle.std.specs.List.{flat_map}
 use Rattle.run_rows.specs.Row.{IsRow}
 
@@ -23,6 +23,10 @@ pub record AreLines (rows columns : ℕ) (ls : List Line) : Type 0 where
 abbrev pub line_of : ℕ → List Line → Option (List ℕ)
 line_of n [] = None
 line_of n (l ∷ ls) = if l.row == n then Some l.columns else line_of n ls
+
+-- the lines before the place are passed: each row from n on has its line from the place on, or none
+abbrev pub IsPassed : ℕ → ℕ → List Line → Type 0
+IsPassed n place ls = (m : ℕ) → n ≤ m → line_of m ls ≡ line_of m (drop place ls)
 
 -- the pairs of a line
 abbrev pub pairs_of_line : Line → List (ℕ × ℕ)

@@ -3,11 +3,12 @@
 //!
 //! [`check_slice`] tells whether bytes are a slice, [`view_slice`] reads bytes that are known to be one, and
 //! [`encode_slice`] writes one. A [`SliceRef`] borrows the bytes and is seen as the list of its lines, each a
-//! row's number with the row. It finds a row by halving, and walks all lines in order. No call but those that
-//! write takes memory.
+//! row's number with the row. It finds a row by halving, walks all lines in order, and folds them under a mask.
+//! No call but those that write takes memory.
 #![tactic(auto)]
 
 mod check;
+mod folds;
 mod lines;
 mod parts;
 mod seek;
@@ -17,3 +18,6 @@ mod writing;
 pub use lines::Lines;
 pub use slice::{SliceRef, check_slice, view_slice};
 pub use writing::{append_slice, encode_slice};
+
+#[cfg(test)]
+mod tests;

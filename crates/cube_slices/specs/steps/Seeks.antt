@@ -1,10 +1,6 @@
 -- Where a row is sought among lines: between two places.
 use Rattle.std.specs.Prelude.{◌≡◌, ℕ, ◌+◌, ◌≤◌, List, [], ◌∷◌, length, drop}
-use Rattle.cube_slices.specs.Lines.{Line, line_of}
-
--- each row from n on that has a line has it from the place on
-abbrev pub IsPassed : ℕ → ℕ → List Line → Type 0
-IsPassed n place ls = (m : ℕ) → n ≤ m → line_of m ls ≡ line_of m (drop place ls)
+use Rattle.cube_slices.specs.Lines.{Line, IsPassed}
 
 -- the first of the lines, if there is one, is not before row n
 abbrev pub StartsAt : ℕ → List Line → Type 0
