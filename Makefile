@@ -5,7 +5,7 @@
 .PHONY: example try gate runs bench random pages build
 
 INSTRUMENTS = hierarchy labels overview
-BENCHES = bench_rows bench_lanes bench_terms bench_reading
+BENCHES = bench_rows bench_lanes bench_slices bench_terms bench_reading
 
 example: build
 	./bitmat ask examples/people.nt examples/friends.rq tsv | diff examples/friends.tsv -

@@ -26,7 +26,7 @@ lines_at-entries_of form low rows columns from (l ∷ ls) small ascend =
     let back : row_numbers form bytes ≡ l.columns = row_numbers-row_bytes form columns l.columns small ascend.2 in
     let behind = lines_at-entries_of form (l.row + 1) rows columns end ls small ascend.3 in
     rw (gap, take_at bytes (bytes_of_lines form ls) (length bytes) refl, drop_at bytes (bytes_of_lines form ls) (length bytes) refl)
-      (let both : record { row = l.row; columns = row_numbers form bytes } ∷ lines_at form end (entries_of form end ls) (bytes_of_lines form ls) ≡ l ∷ ls = λ i. record { row = l.row; columns = back i } ∷ behind i in both)
+    (let both : record { row = l.row; columns = row_numbers form bytes } ∷ lines_at form end (entries_of form end ls) (bytes_of_lines form ls) ≡ l ∷ ls = λ i. record { row = l.row; columns = back i } ∷ behind i in both)
 
 -- lines in order have entries in order
 pub AreEntries-entries_of : (form : RowForm) (low rows columns from : ℕ) (ls : List Line) → columns < 2 ^ 32 → LinesAscend low rows columns ls → AreEntries form rows columns low from (entries_of form from ls) (bytes_of_lines form ls)
@@ -36,10 +36,14 @@ AreEntries-entries_of form low rows columns from (l ∷ ls) small ascend =
     let end = from + length bytes in
     let gap : end - from ≡ length bytes = omega arith in
     let encoding : IsEncoding form columns bytes = IsEncoding-from_encodes form columns bytes l.columns (record { row = ascend.2; spelled = refl }) small in
-    let behind = AreEntries-entries_of form (l.row + 1) rows columns end ls small ascend.3 in
-    (ascend.0, ascend.1, omega (arith, length-row_bytes-some form l.columns ascend.2.some), omega (arith, length-append bytes (bytes_of_lines form ls)),
-     rw (gap, take_at bytes (bytes_of_lines form ls) (length bytes) refl) encoding,
-     rw (gap, drop_at bytes (bytes_of_lines form ls) (length bytes) refl) behind)
+    let behind = AreEntries-entries_of form (l.row + 1) rows columns end ls small ascend.3 in (
+      ascend.0,
+      ascend.1,
+      omega (arith, length-row_bytes-some form l.columns ascend.2.some),
+      omega (arith, length-append bytes (bytes_of_lines form ls)),
+      rw (gap, take_at bytes (bytes_of_lines form ls) (length bytes) refl) encoding,
+      rw (gap, drop_at bytes (bytes_of_lines form ls) (length bytes) refl) behind,
+    )
 
 -- the numbers of entries fit in four bytes
 pub PairsFit32-entries_of : (form : RowForm) (low rows columns from : ℕ) (ls : List Line) → rows < 2 ^ 32 → from + length (bytes_of_lines form ls) < 2 ^ 32 → LinesAscend low rows columns ls → PairsFit32 (entries_of form from ls)
@@ -71,9 +75,9 @@ entries_of-lines_at form rows columns low from (e ∷ es) bytes are =
 pub bytes_of-lines_at : (form : RowForm) (rows columns low from : ℕ) (es : List (ℕ × ℕ)) (bytes : List ℕ) → AreEntries form rows columns low from es bytes → bytes_of_lines form (lines_at form from es bytes) ≡ bytes
 bytes_of-lines_at form rows columns low from [] bytes are = sym (empty bytes are)
   where
-  empty : (bs : List ℕ) → length bs ≡ 0 → bs ≡ []
-  empty [] none = refl
-  empty (b ∷ bs) none = absurd (omega arith)
+    empty : (bs : List ℕ) → length bs ≡ 0 → bs ≡ []
+    empty [] none = refl
+    empty (b ∷ bs) none = absurd (omega arith)
 bytes_of-lines_at form rows columns low from (e ∷ es) bytes are =
     let behind = bytes_of-lines_at form rows columns (e.0 + 1) e.1 es (drop (e.1 - from) bytes) are.5 in
     let front = sym are.4.spelled in
@@ -101,9 +105,14 @@ AreEntries-lower form rows columns low mid from (e ∷ es) bytes at_mid are = (o
 -- entries for so many rows and columns are entries for more
 pub AreEntries-wider : (form : RowForm) (rows columns tall wide low from : ℕ) (es : List (ℕ × ℕ)) (bytes : List ℕ) → rows ≤ tall → columns ≤ wide → AreEntries form rows columns low from es bytes → AreEntries form tall wide low from es bytes
 AreEntries-wider form rows columns tall wide low from [] bytes taller wider are = are
-AreEntries-wider form rows columns tall wide low from (e ∷ es) bytes taller wider are =
-    (are.0, omega (arith, are.1), are.2, are.3, Encodes-wider form columns wide (take (e.1 - from) bytes) (row_numbers form (take (e.1 - from) bytes)) wider are.4,
-     AreEntries-wider form rows columns tall wide (e.0 + 1) e.1 es (drop (e.1 - from) bytes) taller wider are.5)
+AreEntries-wider form rows columns tall wide low from (e ∷ es) bytes taller wider are = (
+  are.0,
+  omega (arith, are.1),
+  are.2,
+  are.3,
+  Encodes-wider form columns wide (take (e.1 - from) bytes) (row_numbers form (take (e.1 - from) bytes)) wider are.4,
+  AreEntries-wider form rows columns tall wide (e.0 + 1) e.1 es (drop (e.1 - from) bytes) taller wider are.5,
+)
 
 -- the first entry and those behind it
 pub AreEntries-first : (form : RowForm) (rows columns low from : ℕ) (e : ℕ × ℕ) (all es : List (ℕ × ℕ)) (bytes : List ℕ) → all ≡ e ∷ es → AreEntries form rows columns low from all bytes ↔ (IsEntry form rows columns low from e bytes × AreEntries form rows columns (e.0 + 1) e.1 es (drop (e.1 - from) bytes))

@@ -10,7 +10,15 @@ use byte_tables::split_pair;
 use run_rows::{RowForm, check};
 
 /// Whether an entry is in order, and the bytes up to its end are the encoding of a row.
-fn is_entry(form: RowForm, rows: u32, columns: u32, low: u32, from: u32, entry: (u32, u32), bytes: &[u8]) -> bool
+fn is_entry(
+    form: RowForm,
+    rows: u32,
+    columns: u32,
+    low: u32,
+    from: u32,
+    entry: (u32, u32),
+    bytes: &[u8],
+) -> bool
     ensures { IsTrue result ↔ IsEntry form rows columns low from entry bytes.now }
 {
     let (row, end) = entry;

@@ -66,7 +66,13 @@ fn fill_columns(pairs: &[(u32, u32)], columns: &mut Vec<u32>) -> Result<(), Allo
 
 /// Appends the entry of a row whose bytes begin at `from`, and gives where they end.
 #[tactic(auto, using(byte_tables::proofs::WritingLaws::fronts))]
-fn push_entry(form: RowForm, from: u32, row: u32, columns: &[u32], out: &mut Vec<u8>) -> Result<u32, AllocError>
+fn push_entry(
+    form: RowForm,
+    from: u32,
+    row: u32,
+    columns: &[u32],
+    out: &mut Vec<u8>,
+) -> Result<u32, AllocError>
     requires row { IsRow (2 ^ 32 - 1) columns.now }
     requires fits { from + length (row_bytes form columns.now) < 2 ^ 32 }
     ensures end { IfOk result (λ end. end ≡ from + length (row_bytes form columns.now)) }
@@ -80,7 +86,12 @@ fn push_entry(form: RowForm, from: u32, row: u32, columns: &[u32], out: &mut Vec
 
 /// Appends the entries of all rows.
 #[tactic(auto, using(byte_tables::proofs::WritingLaws::fronts))]
-fn push_entries(form: RowForm, pairs: &[(u32, u32)], columns: &mut Vec<u32>, out: &mut Vec<u8>) -> Result<(), AllocError>
+fn push_entries(
+    form: RowForm,
+    pairs: &[(u32, u32)],
+    columns: &mut Vec<u32>,
+    out: &mut Vec<u8>,
+) -> Result<(), AllocError>
     requires pairs { ArePairs (2 ^ 32 - 1) (2 ^ 32 - 1) pairs.now }
     requires few { length pairs.now ≤ 2 ^ 23 }
     ensures written { OnOk result (out.new.items ≡ out.old.items ++ flat_map pair_bytes (entries_of form 0 (lines_of pairs.now))) }
@@ -99,7 +110,12 @@ fn push_entries(form: RowForm, pairs: &[(u32, u32)], columns: &mut Vec<u32>, out
 
 /// Appends the bytes of all rows.
 #[tactic(auto, using(byte_tables::proofs::WritingLaws::fronts))]
-fn push_rows(form: RowForm, pairs: &[(u32, u32)], columns: &mut Vec<u32>, out: &mut Vec<u8>) -> Result<(), AllocError>
+fn push_rows(
+    form: RowForm,
+    pairs: &[(u32, u32)],
+    columns: &mut Vec<u32>,
+    out: &mut Vec<u8>,
+) -> Result<(), AllocError>
     requires pairs { ArePairs (2 ^ 32 - 1) (2 ^ 32 - 1) pairs.now }
     ensures written { OnOk result (out.new.items ≡ out.old.items ++ bytes_of_lines form (lines_of pairs.now)) }
     ensures kept { BeginsWith out.new.items out.old.items }
@@ -116,7 +132,12 @@ fn push_rows(form: RowForm, pairs: &[(u32, u32)], columns: &mut Vec<u32>, out: &
 
 /// Appends the parts of a slice, one after the other.
 #[tactic(auto, using(byte_tables::proofs::WritingLaws::fronts), unfolding(crate::specs::Slices::slice_bytes))]
-fn push_slice(form: RowForm, pairs: &[(u32, u32)], columns: &mut Vec<u32>, out: &mut Vec<u8>) -> Result<(), AllocError>
+fn push_slice(
+    form: RowForm,
+    pairs: &[(u32, u32)],
+    columns: &mut Vec<u32>,
+    out: &mut Vec<u8>,
+) -> Result<(), AllocError>
     requires pairs { ArePairs (2 ^ 32 - 1) (2 ^ 32 - 1) pairs.now }
     requires few { length pairs.now ≤ 2 ^ 23 }
     ensures written { OnOk result (out.new.items ≡ out.old.items ++ slice_bytes form (lines_of pairs.now)) }
@@ -132,7 +153,12 @@ fn push_slice(form: RowForm, pairs: &[(u32, u32)], columns: &mut Vec<u32>, out: 
 /// row: whatever is in it is lost, and it is there to be used again for the next slice. `Err` only where
 /// memory runs out, and then nothing is appended.
 #[tactic(auto, using(crate::proofs::WritingLaws::slices_of_pairs))]
-pub fn append_slice(form: RowForm, pairs: &[(u32, u32)], columns: &mut Vec<u32>, out: &mut Vec<u8>) -> Result<(), AllocError>
+pub fn append_slice(
+    form: RowForm,
+    pairs: &[(u32, u32)],
+    columns: &mut Vec<u32>,
+    out: &mut Vec<u8>,
+) -> Result<(), AllocError>
     requires pairs { ArePairs (2 ^ 32 - 1) (2 ^ 32 - 1) pairs.now }
     requires few { length pairs.now ≤ 2 ^ 23 }
     ensures written { OnOk result (out.new.items ≡ out.old.items ++ slice_bytes form (lines_of pairs.now)) }
@@ -152,7 +178,12 @@ pub fn append_slice(form: RowForm, pairs: &[(u32, u32)], columns: &mut Vec<u32>,
 /// ascending order, and no number is `2 ^ 32 - 1`. `Err` only where memory runs out, and then nothing is
 /// appended.
 #[tactic(auto, using(crate::proofs::WritingLaws::slices_of_pairs))]
-pub fn encode_slice(alloc: Global, form: RowForm, pairs: &[(u32, u32)], out: &mut Vec<u8>) -> Result<(), AllocError>
+pub fn encode_slice(
+    alloc: Global,
+    form: RowForm,
+    pairs: &[(u32, u32)],
+    out: &mut Vec<u8>,
+) -> Result<(), AllocError>
     requires pairs { ArePairs (2 ^ 32 - 1) (2 ^ 32 - 1) pairs.now }
     requires few { length pairs.now ≤ 2 ^ 23 }
     ensures written { OnOk result (out.new.items ≡ out.old.items ++ slice_bytes form (lines_of pairs.now)) }
