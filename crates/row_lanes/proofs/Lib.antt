@@ -4,4 +4,5 @@ pub mod ZeroLaws
 pub mod SetLaws
 pub mod NumberLaws
 pub mod LeastLaws
+pub mod RunLaws
 pub mod RowLaws

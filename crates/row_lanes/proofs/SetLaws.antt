@@ -85,3 +85,14 @@ Has-cut old middle new n low room low-is middle-is cut m =
 -- no number is removed where there is no word for n
 pub Has-cut_past : (words : List ℕ) (n : ℕ) → length words ≤ n / 64 → (m : ℕ) → Has words m ↔ (Has words m × (m < n))
 Has-cut_past words n past m = (λ had. (had, omega (arith, Has-below_length words m had)), λ h. h.0)
+
+-- the number is added where there is a word for it
+pub Has-add_within : (words : List ℕ) (n : ℕ) → n / 64 < length words → (m : ℕ) → Has (set words (n / 64) (bit_or (get_or words (n / 64) 0) (1 * 2 ^ (n % 64) % 2 ^ 64))) m ↔ (Has words m ⊎ ((m ≡ n) × (m < 64 * length words)))
+Has-add_within words n room m =
+    let added = Has-add words n room m in (
+      λ h. elim (added.0 h) [ inl had ↦ inl had | inr same ↦ inr (same, omega arith) ],
+      λ h. added.1 (elim h [ inl had ↦ inl had | inr (same, lt) ↦ inr same ]),
+    )
+
+pub Has-add_past : (words : List ℕ) (n : ℕ) → length words ≤ n / 64 → (m : ℕ) → Has words m ↔ (Has words m ⊎ ((m ≡ n) × (m < 64 * length words)))
+Has-add_past words n past m = (λ had. inl had, λ h. elim h [ inl had ↦ had | inr (same, lt) ↦ absurd (omega arith) ])

@@ -5,6 +5,7 @@ ghost use Rattle.std.specs.Int.{w64, trailing_zeros};
 ghost use Rattle.run_rows.specs.Row.{IsLeastFrom};
 ghost use Rattle.row_lanes.specs.Words.{Has, numbers_in};
 
+use crate::runs::add_row;
 use crate::words::{and_words, first_set, ones, zero_from};
 use run_rows::RowRef;
 
@@ -17,12 +18,25 @@ pub fn and_into(into: &mut [u64], other: &[u64])
     and_words(into, other);
 }
 
-/// Adds one number.
-fn add(into: &mut [u64], n: u32)
-    requires { n < 64 * length into.old }
-    ensures { (m : ℕ) → Has into.new m ↔ (Has into.old m ⊎ (m ≡ n)) }
+/// Whether the number is in the set.
+pub fn has(words: &[u64], n: u32) -> bool
+    ensures { IsTrue result ↔ Has words.now n }
 {
-    into[n as usize / 64] |= 1 << (n % 64);
+    match words.get(n as usize / 64) {
+        Some(word) => (word >> (n % 64)) % 2 == 1,
+        None => false,
+    }
+}
+
+/// Adds one number, if there is a word for it.
+pub fn add(into: &mut [u64], n: u32)
+    ensures either { (m : ℕ) → Has into.new m ↔ (Has into.old m ⊎ ((m ≡ n) × (m < 64 * length into.old))) }
+    ensures same_length { length into.new ≡ length into.old }
+{
+    let place = n as usize / 64;
+    if place < into.len() {
+        into[place] |= 1 << (n % 64);
+    }
 }
 
 /// Adds the numbers of the row, for each of which there is a word.
@@ -31,9 +45,7 @@ pub fn or_row(into: &mut [u64], row: &RowRef<'_>)
     ensures either { (n : ℕ) → Has into.new n ↔ (Has into.old n ⊎ Contains row.now n) }
     ensures same_length { length into.new ≡ length into.old }
 {
-    for n in row.iter() {
-        add(into, n);
-    }
+    add_row(into, row);
 }
 
 /// Removes the numbers from `n` on.

@@ -1,7 +1,7 @@
 ghost use Rattle.std.specs.Prelude.{◌<◌, ◌≤◌};
 
 use super::*;
-use run_rows::{RowForm, check, encode};
+use run_rows::{RowForm, RowRef, check, encode};
 use std::process::Abort;
 use std::test::Fail;
 
@@ -209,5 +209,32 @@ fn clears_at_each_length(rt: HostRuntime) {
                 }
             }
         }
+    }
+}
+
+/// Runs that begin and end at each place of two words, and behind them.
+#[test]
+fn adds_and_asks_by_runs(rt: HostRuntime) -> Result<(), Fail> {
+    for start in 0..130u32 {
+        for len in 1..70u32 {
+            let mut bytes = [0u8; 8];
+            bytes[..4].copy_from_slice(&start.to_le_bytes());
+            bytes[4..].copy_from_slice(&len.to_le_bytes());
+            let row = check(RowForm::V1, &bytes, 200).ok_or("a row")?;
+            run_agrees(&rt, &row, start, len);
+        }
+    }
+    Ok(())
+}
+
+fn run_agrees(rt: &impl Abort, row: &RowRef<'_>, start: u32, len: u32) {
+    let mut mask = [0; 2];
+    add_row(&mut mask, row);
+    for n in 0..130u32 {
+        let within = n < 128 && n >= start && n - start < len;
+        assert_eq!(rt; has(&mask, n), within);
+        let mut one = [0; 2];
+        add(&mut one, n);
+        assert_eq!(rt; meets_row(&one, row), within);
     }
 }

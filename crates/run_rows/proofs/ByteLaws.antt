@@ -1,38 +1,14 @@
 -- Laws of bytes: the bytes of runs and the runs determine each other.
-use Rattle.std.proofs.Common.{◌≡◌, ℕ, zero, suc, ◌+◌, ◌*◌, ◌^◌, ◌<◌, ◌≤◌, List, [], ◌∷◌, ◌++◌, length, get_or, take, drop, refl, sym, ap, ◌∙◌, subst, inl, inr, rules, arith, ◌==◌, ◌↔◌, IsTrue}
-use Rattle.std.proofs.lemmas.Bool.{cases_lt, eqb-true}
-use Rattle.std.proofs.lemmas.Nat.{le_bytes_4, from_le_bytes-to_le_bytes_4}
-use Rattle.std.proofs.lemmas.List.{append_cancel_left, length-take, get_or-take, get_or-drop, get_or_past, drop-drop}
-use Rattle.std.specs.Int.{w32, to_le_bytes, from_le_bytes}
+use Rattle.std.proofs.Common.{◌≡◌, ℕ, ◌+◌, ◌*◌, ◌^◌, ◌<◌, ◌≤◌, List, [], ◌∷◌, ◌++◌, length, map, drop, refl, sym, ap, ◌∙◌, subst, rules, arith, ◌==◌, ◌↔◌, IsTrue, length-append}
+use Rattle.std.proofs.lemmas.Bool.{eqb-true}
+use Rattle.std.proofs.lemmas.List.{append_cancel_left, drop-map}
 use Rattle.std.specs.List.{flat_map}
+use Rattle.byte_tables.specs.Pairs.{pair_bytes, pairs_in}
+use Rattle.byte_tables.proofs.PairLaws.{pairs_in-pair_bytes, pairs_in_short, length-pair_bytes}
 use Rattle.run_rows.specs.declared.run.Run.{Run}
 use Rattle.run_rows.specs.Runs.{AreRuns}
 use Rattle.run_rows.proofs.RunLaws.{AreRuns-lower}
-use Rattle.run_rows.specs.Encoding.{run_bytes, runs_in, SpellsRuns}
-
--- each is below 256
-abbrev pub IsBytes : List ℕ → Type 0
-IsBytes bytes = (i : ℕ) → get_or bytes i 0 < 256
-
-IsBytes-take : (n : ℕ) (bytes : List ℕ) → IsBytes bytes → IsBytes (take n bytes)
-IsBytes-take n bytes fits i =
-    elim (cases_lt i n) [
-      | inl within ↦ rw (get_or-take n bytes i 0 within) (fits i)
-      | inr past ↦ rw (get_or_past (take n bytes) i 0 (omega (arith, length-take n bytes))) (omega arith)
-    ]
-
-IsBytes-drop : (n : ℕ) (bytes : List ℕ) → IsBytes bytes → IsBytes (drop n bytes)
-IsBytes-drop n bytes fits i = rw get_or-drop (fits (n + i))
-
--- the first eight bytes are those of the run that they spell
-pub run_bytes-read : (bytes : List ℕ) (r : Run) → 8 ≤ length bytes → IsBytes bytes → r.start ≡ from_le_bytes w32 bytes → r.len ≡ from_le_bytes w32 (drop 4 bytes) → bytes ≡ run_bytes r ++ drop 8 bytes
-unfolding run_bytes
-run_bytes-read (a ∷ b ∷ c ∷ d ∷ e ∷ f ∷ g ∷ h ∷ rest) r size fits start-is len-is =
-    let bytes = a ∷ b ∷ c ∷ d ∷ e ∷ f ∷ g ∷ h ∷ rest in
-    let front = le_bytes_4 (take 4 bytes) r.start refl (IsBytes-take 4 bytes fits) start-is in
-    let back = le_bytes_4 (take 4 (drop 4 bytes)) r.len refl (IsBytes-take 4 (drop 4 bytes) (IsBytes-drop 4 bytes fits)) len-is in
-    sym (ap (λ (p : List ℕ). p ++ to_le_bytes w32 r.len ++ rest) front ∙ ap (λ (p : List ℕ). take 4 bytes ++ p ++ rest) back)
-run_bytes-read _ r size fits start-is len-is = absurd (omega arith)
+use Rattle.run_rows.specs.Encoding.{run_bytes, run_of, runs_in, SpellsRuns}
 
 -- a run's numbers are below 2 ^ 32
 pub record Fits32 (r : Run) : Type 0 where
@@ -42,33 +18,25 @@ pub record Fits32 (r : Run) : Type 0 where
 -- the bytes of a run, in front of others, are that run
 pub runs_in-run_bytes : (r : Run) (rest : List ℕ) → Fits32 r → runs_in (run_bytes r ++ rest) ≡ r ∷ runs_in rest
 unfolding run_bytes runs_in
-runs_in-run_bytes r rest fits = rw (from_le_bytes-to_le_bytes_4 r.start fits.start, from_le_bytes-to_le_bytes_4 r.len fits.len) refl
+runs_in-run_bytes r rest fits = ap (map run_of) (pairs_in-pair_bytes (r.start, r.len) rest fits.start fits.len)
 
 -- fewer than eight bytes are no run
 pub runs_in_short : (bytes : List ℕ) → length bytes < 8 → runs_in bytes ≡ []
 unfolding runs_in
-runs_in_short (a ∷ b ∷ c ∷ d ∷ e ∷ f ∷ g ∷ h ∷ rest) short = absurd (omega arith)
-runs_in_short _ short = refl
+runs_in_short bytes short = ap (map run_of) (pairs_in_short bytes short)
 
--- eight bytes less are a run less
-runs_in-drop_8 : (bytes : List ℕ) → runs_in (drop 8 bytes) ≡ drop 1 (runs_in bytes)
+-- the first pair is the first run
+pub runs_in-first : (p : ℕ × ℕ) (bytes rest : List ℕ) → pairs_in bytes ≡ p ∷ pairs_in rest → runs_in bytes ≡ run_of p ∷ runs_in rest
 unfolding runs_in
-runs_in-drop_8 (a ∷ b ∷ c ∷ d ∷ e ∷ f ∷ g ∷ h ∷ rest) = refl
-runs_in-drop_8 _ = refl
+runs_in-first p bytes rest first = ap (map run_of) first
 
--- the runs from place i on stand in the bytes from 8 * i on
-pub runs_in-drop : (i : ℕ) (bytes : List ℕ) → runs_in (drop (8 * i) bytes) ≡ drop i (runs_in bytes)
-runs_in-drop zero bytes = refl
-runs_in-drop (suc i) bytes =
-    let eight : 8 * suc i ≡ 8 + 8 * i = omega arith in
-    let one : 1 + i ≡ suc i = omega arith in
-    rw eight (rw (← drop-drop (8 * i) 8 bytes) (runs_in-drop i (drop 8 bytes) ∙ ap (drop i) (runs_in-drop_8 bytes) ∙ drop-drop i 1 (runs_in bytes) ∙ ap (λ (n : ℕ). drop n (runs_in bytes)) one))
+-- the pair in place i is the run in place i
+pub runs_in-place : (i : ℕ) (p : ℕ × ℕ) (bytes : List ℕ) → drop i (pairs_in bytes) ≡ p ∷ drop (i + 1) (pairs_in bytes) → drop i (runs_in bytes) ≡ run_of p ∷ drop (i + 1) (runs_in bytes)
+unfolding runs_in
+runs_in-place i p bytes at =
+    drop-map run_of i (pairs_in bytes) ∙ ap (map run_of) at ∙ ap (λ (rs : List Run). run_of p ∷ rs) (sym (drop-map run_of (i + 1) (pairs_in bytes)))
 
--- the run that the bytes from 8 * i on begin with stands in place i
-pub run_in_place : (i : ℕ) (bytes : List ℕ) (r : Run) → runs_in (drop (8 * i) bytes) ≡ r ∷ runs_in (drop 8 (drop (8 * i) bytes)) → drop i (runs_in bytes) ≡ r ∷ drop (i + 1) (runs_in bytes)
-run_in_place i bytes r begins =
-    let behind = runs_in-drop_8 (drop (8 * i) bytes) ∙ ap (drop 1) (runs_in-drop i bytes) ∙ drop-drop 1 i (runs_in bytes) in
-    sym (runs_in-drop i bytes) ∙ begins ∙ ap (λ (rs : List Run). r ∷ rs) behind
+pub ruleset runs_of_pairs = (runs_in_short, runs_in-first, runs_in-place)
 
 -- the bytes of runs are those runs
 pub runs_in-flat_map : (rs : List Run) (low columns : ℕ) → columns < 2 ^ 32 → AreRuns low columns rs → runs_in (flat_map run_bytes rs) ≡ rs
@@ -83,10 +51,15 @@ SpellsRuns-flat_map rs low columns small fits =
     record { spelled = ap (flat_map run_bytes) (sym same); runs = rw same fits }
 
 -- a run takes eight bytes
+pub length-run_bytes : (r : Run) → length (run_bytes r) ≡ 8
+unfolding run_bytes
+length-run_bytes r = length-pair_bytes (r.start, r.len)
+
 pub length-flat_map-run_bytes : (rs : List Run) → length (flat_map run_bytes rs) ≡ 8 * length rs
 unfolding run_bytes
 length-flat_map-run_bytes [] = refl
-length-flat_map-run_bytes (r ∷ rs) = omega (arith, length-flat_map-run_bytes rs)
+length-flat_map-run_bytes (r ∷ rs) =
+    omega (arith, length-pair_bytes (r.start, r.len), length-append (pair_bytes (r.start, r.len)) (flat_map run_bytes rs), length-flat_map-run_bytes rs)
 
 pub length-runs : (low columns : ℕ) (bytes : List ℕ) → SpellsRuns low columns bytes → length bytes ≡ 8 * length (runs_in bytes)
 length-runs low columns bytes spells = ap length spells.spelled ∙ length-flat_map-run_bytes (runs_in bytes)

@@ -1,5 +1,5 @@
 -- Laws of encodings: a row has one spelling, and a spelling one row.
-use Rattle.std.proofs.Common.{◌≡◌, ℕ, ◌+◌, ◌-◌, ◌*◌, ◌^◌, ◌<◌, ◌≤◌, List, [], ◌∷◌, length, refl, sym, ap, ◌∙◌, inl, inr, arith}
+use Rattle.std.proofs.Common.{◌≡◌, ◌↔◌, ℕ, ◌+◌, ◌-◌, ◌*◌, ◌^◌, ◌<◌, ◌≤◌, List, [], ◌∷◌, length, refl, sym, ap, ◌∙◌, inl, inr, arith}
 use Rattle.std.proofs.lemmas.Bool.{cases_eq}
 use Rattle.std.specs.List.{flat_map}
 use Rattle.run_rows.specs.declared.form.RowForm.{RowForm}
@@ -9,7 +9,7 @@ use Rattle.run_rows.specs.Row.{IsRow}
 use Rattle.run_rows.specs.Runs.{members, with_first, runs_of, AreRuns}
 use Rattle.run_rows.specs.Encoding.{run_bytes, row_bytes, runs_in, row_numbers, Encodes, IsEncoding, SpellsRuns}
 use Rattle.run_rows.proofs.RowLaws.{IsRow-wider}
-use Rattle.run_rows.proofs.RunLaws.{AreRuns-runs_of, AscendsWithin-members, members-runs_of, runs_of-members, length-members-cons, with_first-next, with_first-apart}
+use Rattle.run_rows.proofs.RunLaws.{AreRuns-runs_of, AscendsWithin-members, members-runs_of, runs_of-members, length-members-cons, length-members-le, with_first-next, with_first-apart}
 use Rattle.run_rows.proofs.ByteLaws.{runs_in-flat_map, SpellsRuns-flat_map, length-flat_map-run_bytes, length-runs}
 
 -- a list has at most as many runs as numbers, and one at least where it has one number
@@ -21,9 +21,14 @@ length-with_first x (r ∷ rs) =
       | inr ne ↦ rw (with_first-apart x r rs ne) (omega arith, omega arith)
     ]
 
-length-runs_of : (xs : List ℕ) → length (runs_of xs) ≤ length xs
+pub length-runs_of : (xs : List ℕ) → length (runs_of xs) ≤ length xs
 length-runs_of [] = omega arith
 length-runs_of (x ∷ xs) = omega (arith, (length-with_first x (runs_of xs)).0, length-runs_of xs)
+
+-- a row has no more numbers than columns
+pub length-row-le : (columns : ℕ) (xs : List ℕ) → IsRow columns xs → length xs ≤ columns
+length-row-le columns xs row =
+    omega (arith, ap length (members-runs_of xs), length-members-le 0 columns (runs_of xs) (AreRuns-runs_of 0 columns xs row.ascends))
 
 some-runs_of : (xs : List ℕ) → 0 < length xs → 0 < length (runs_of xs)
 some-runs_of [] some = absurd (omega arith)
@@ -94,5 +99,17 @@ runs_of_row form bytes encoding = (runs_from_encoding form (2 ^ 32 - 1) bytes en
 pub numbers_of_row : (form : RowForm) (bytes : List ℕ) → row_numbers form bytes ≡ members (runs_in bytes)
 unfolding row_numbers
 numbers_of_row V1 bytes = refl
+
+-- the runs of a row that is read are those of its numbers
+pub runs_of_numbers : (form : RowForm) (bytes : List ℕ) → IsEncoding form (2 ^ 32 - 1) bytes → runs_in bytes ≡ runs_of (row_numbers form bytes)
+unfolding row_numbers
+runs_of_numbers V1 bytes encoding =
+    let spells = runs_of_row V1 bytes encoding in
+    sym (runs_of-members 0 (2 ^ 32 - 1) (runs_in bytes) spells.runs)
+
+-- two encodings of one form are the same bytes exactly where they are the same numbers
+pub same_encodings : (form : RowForm) (columns wide : ℕ) (bytes others : List ℕ) → IsEncoding form columns bytes → IsEncoding form wide others → (bytes ≡ others) ↔ (row_numbers form bytes ≡ row_numbers form others)
+same_encodings form columns wide bytes others one two =
+    (λ same. ap (row_numbers form) same, λ same. one.spelled ∙ ap (row_bytes form) same ∙ sym two.spelled)
 
 pub ruleset row_as_runs = (runs_of_row, numbers_of_row)

@@ -1,6 +1,7 @@
 -- Worked examples of the definitions.
 use Rattle.std.proofs.Common.{◌≡◌, ℕ, ◌<◌, ◌≤◌, [], ◌∷◌, Some, None, refl, lit<, arith, rules}
 use Rattle.std.proofs.lemmas.List.Elements.{All-from_recursion}
+use Rattle.byte_tables.specs.Pairs.{pair_bytes, pairs_in}
 use Rattle.run_rows.specs.declared.form.RowForm.TheVariants.{V1}
 use Rattle.run_rows.specs.declared.run.Run.{Run}
 use Rattle.run_rows.specs.Row.{IsRow, IsLeastFrom}
@@ -48,14 +49,14 @@ touching fits = omega (arith, fits.3.0)
 
 -- its bytes, and what they stand for
 bytes_of_row : row_bytes V1 (0 ∷ 1 ∷ 2 ∷ 5 ∷ []) ≡ 0 ∷ 0 ∷ 0 ∷ 0 ∷ 3 ∷ 0 ∷ 0 ∷ 0 ∷ 5 ∷ 0 ∷ 0 ∷ 0 ∷ 1 ∷ 0 ∷ 0 ∷ 0 ∷ []
-unfolding row_bytes run_bytes
+unfolding row_bytes run_bytes pair_bytes
 bytes_of_row = refl
 
 numbers_of_bytes : row_numbers V1 (0 ∷ 0 ∷ 0 ∷ 0 ∷ 3 ∷ 0 ∷ 0 ∷ 0 ∷ 5 ∷ 0 ∷ 0 ∷ 0 ∷ 1 ∷ 0 ∷ 0 ∷ 0 ∷ []) ≡ 0 ∷ 1 ∷ 2 ∷ 5 ∷ []
-unfolding row_numbers runs_in
+unfolding row_numbers runs_in pairs_in
 numbers_of_bytes = refl
 
 -- a number of the upper bytes
 wide_number : row_bytes V1 (258 ∷ []) ≡ 2 ∷ 1 ∷ 0 ∷ 0 ∷ 1 ∷ 0 ∷ 0 ∷ 0 ∷ []
-unfolding row_bytes run_bytes
+unfolding row_bytes run_bytes pair_bytes
 wide_number = refl

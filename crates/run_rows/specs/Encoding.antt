@@ -1,26 +1,28 @@
 -- The bytes of a row, in each form.
-use Rattle.std.specs.Prelude.{◌≡◌, ℕ, List, [], ◌∷◌, ◌++◌}
+use Rattle.std.specs.Prelude.{◌≡◌, ℕ, List, map}
 use Rattle.std.specs.List.{flat_map}
-use Rattle.std.specs.Int.{w32, to_le_bytes, from_le_bytes}
+use Rattle.byte_tables.specs.Pairs.{pair_bytes, pairs_in}
 use Rattle.run_rows.specs.declared.form.RowForm.{RowForm}
 use Rattle.run_rows.specs.declared.form.RowForm.TheVariants.{V1}
 use Rattle.run_rows.specs.declared.run.Run.{Run}
 use Rattle.run_rows.specs.Row.{IsRow}
 use Rattle.run_rows.specs.Runs.{members, runs_of, AreRuns}
 
--- a run as two numbers of four bytes, the lowest byte first: its start and its length
+-- a run as a pair of numbers of four bytes: its start and its length
 unfoldable pub run_bytes : Run → List ℕ
-run_bytes r = to_le_bytes w32 r.start ++ to_le_bytes w32 r.len
+run_bytes r = pair_bytes (r.start, r.len)
 
 -- the bytes of a row
 unfoldable pub row_bytes : RowForm → List ℕ → List ℕ
 row_bytes V1 xs = flat_map run_bytes (runs_of xs)
 
+-- the run that a pair stands for
+abbrev pub run_of : ℕ × ℕ → Run
+run_of p = record { start = p.0; len = p.1 }
+
 -- the runs that stand in bytes, eight bytes each
 unfoldable pub runs_in : List ℕ → List Run
-runs_in (a ∷ b ∷ c ∷ d ∷ e ∷ f ∷ g ∷ h ∷ rest) =
-    record { start = from_le_bytes w32 (a ∷ b ∷ c ∷ d ∷ []); len = from_le_bytes w32 (e ∷ f ∷ g ∷ h ∷ []) } ∷ runs_in rest
-runs_in _ = []
+runs_in bytes = map run_of (pairs_in bytes)
 
 -- the numbers that bytes stand for
 unfoldable pub row_numbers : RowForm → List ℕ → List ℕ

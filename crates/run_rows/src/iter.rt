@@ -1,4 +1,4 @@
-//! The numbers of a row, one after the other.
+//! The numbers of a row, and its runs, one after the other.
 
 ghost use Rattle.std.specs.Prelude.{◌≡◌, ◌+◌, ◌-◌, ◌^◌, ◌<◌, [], ◌∷◌, IfSome, IfNone};
 ghost use Rattle.std.specs.Iterator.{YieldsFirst, item_count};
@@ -37,6 +37,59 @@ impl<'a> RowIter<'a> {
             run: Run { start: 0, len: 0 },
             rest: bytes,
         }
+    }
+}
+
+/// The runs of a row in order, each as long as can be. It is seen as the runs that are left.
+#[derive(Debug, Drop)]
+pub struct RunIter<'a> {
+    rest: &'a [u8],
+}
+
+impl<'a> Model for RunIter<'a> {
+    ghost use Rattle.std.specs.Prelude.{List, ◌-◌, ◌^◌};
+    ghost use Rattle.run_rows.specs.declared.run.Run.{Run};
+    ghost use Rattle.run_rows.specs.Encoding.{runs_in, SpellsRuns};
+
+    ghost Value = { List Run };
+
+    ghost view = { λ i. runs_in i.rest.now };
+
+    ghost invariant = { λ i. SpellsRuns 0 (2 ^ 32 - 1) i.rest.now };
+}
+
+impl<'a> RunIter<'a> {
+    /// The runs that the bytes spell.
+    pub(crate) fn over(bytes: &'a [u8]) -> RunIter<'a>
+        requires { SpellsRuns 0 (2 ^ 32 - 1) bytes.now }
+        ensures { result ≡ runs_in bytes.now }
+    {
+        RunIter { rest: bytes }
+    }
+}
+
+/// The first of the runs, and the bytes of the others.
+fn split_first_run(rest: &[u8]) -> Option<(Run, &[u8])>
+    requires { SpellsRuns 0 (2 ^ 32 - 1) rest.now }
+    ensures first { IfSome result (λ parts. runs_in rest.now ≡ parts.0 ∷ runs_in parts.1.now) }
+    ensures left { IfSome result (λ parts. SpellsRuns 0 (2 ^ 32 - 1) parts.1.now) }
+    ensures none { IfNone result (runs_in rest.now ≡ []) }
+{
+    let (run, rest) = split_run(rest)?;
+    Some((run, rest))
+}
+
+impl<'a> Iterator for RunIter<'a> {
+    type Item = Run;
+
+    ghost next_gives = { YieldsFirst (λ r. r) };
+
+    ghost remaining = { item_count (λ r. r) };
+
+    fn next(&mut self) -> Option<Run> {
+        let (run, rest) = split_first_run(self.rest)?;
+        self.rest = rest;
+        Some(run)
     }
 }
 

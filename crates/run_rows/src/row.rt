@@ -3,10 +3,11 @@
 ghost use Rattle.std.specs.Prelude.{◌≡◌, ◌↔◌, ◌-◌, ◌^◌, ℕ, List, length, Contains, IsTrue, IsSome, IfSome, Some};
 ghost use Rattle.std.specs.List.Sorted.{IsStrictlyIncreasing};
 ghost use Rattle.run_rows.specs.Row.{IsRow, IsLeastFrom};
+ghost use Rattle.run_rows.specs.Runs.{members, runs_of, AreRuns};
 ghost use Rattle.run_rows.specs.Encoding.{row_numbers, Encodes, IsEncoding};
 
 use crate::form::RowForm;
-use crate::iter::RowIter;
+use crate::iter::{RowIter, RunIter};
 use crate::runs;
 use std::marker::Model;
 
@@ -20,6 +21,7 @@ pub struct RowRef<'a> {
 
 impl<'a> Model for RowRef<'a> {
     ghost use Rattle.std.specs.Prelude.{ℕ, List, ◌-◌, ◌^◌};
+    ghost use Rattle.run_rows.specs.Runs.{members, runs_of, AreRuns};
     ghost use Rattle.run_rows.specs.Encoding.{row_numbers, IsEncoding};
 
     ghost Value = { List ℕ };
@@ -67,6 +69,29 @@ impl<'a> RowRef<'a> {
     {
         match self.form {
             RowForm::V1 => RowIter::over_runs(self.bytes),
+        }
+    }
+}
+
+impl<'a> RowRef<'a> {
+    /// The runs of the row in order: each as long as can be, with a gap between it and the next.
+    #[tactic(auto, using(crate::proofs::EncodingLaws::row_as_runs))]
+    pub fn runs(&self) -> RunIter<'a>
+        ensures numbers { members result ≡ self.now }
+        ensures runs { result ≡ runs_of self.now }
+        ensures in_order { AreRuns 0 (2 ^ 32 - 1) result }
+    {
+        match self.form {
+            RowForm::V1 => RunIter::over(self.bytes),
+        }
+    }
+
+    /// Whether two rows have the same numbers. As a row has one encoding, their bytes are compared.
+    pub fn same(&self, other: &RowRef<'_>) -> bool
+        ensures { IsTrue result ↔ (self.now ≡ other.now) }
+    {
+        match (self.form, other.form) {
+            (RowForm::V1, RowForm::V1) => self.bytes == other.bytes,
         }
     }
 }

@@ -3,7 +3,7 @@
 ghost use Rattle.std.specs.Prelude.{◌≡◌, ◌+◌, ◌-◌, ◌*◌, ◌^◌, ◌<◌, ◌≤◌, [], ◌∷◌, ◌++◌, length, drop, IfSome, IfNone};
 ghost use Rattle.run_rows.specs.Encoding.{run_bytes, runs_in};
 
-use byteorder::{ByteOrder, LittleEndian};
+use byte_tables::{pair_at, split_pair};
 
 /// Numbers next to one another: `len` of them, from `start` on.
 #[derive(Clone, Copy, Debug)]
@@ -33,36 +33,24 @@ impl Run {
     }
 }
 
-/// The run that the first eight bytes spell.
-pub fn first_run(bytes: &[u8]) -> Run
-    requires { 8 ≤ length bytes.now }
-    ensures spelled { bytes.now ≡ run_bytes result ++ drop 8 bytes.now }
-    ensures first { runs_in bytes.now ≡ result ∷ runs_in (drop 8 bytes.now) }
-{
-    Run {
-        start: LittleEndian::read_u32(bytes),
-        len: LittleEndian::read_u32(&bytes[4..]),
-    }
-}
-
 /// The first run, and the bytes after it. `None` where there are fewer than eight bytes.
-#[tactic(auto, using(crate::proofs::ByteLaws::runs_in_short))]
+#[tactic(auto, using(crate::proofs::ByteLaws::runs_of_pairs), unfolding(crate::specs::Encoding::run_bytes))]
 pub fn split_run(bytes: &[u8]) -> Option<(Run, &[u8])>
     ensures spelled { IfSome result (λ parts. bytes.now ≡ run_bytes parts.0 ++ parts.1.now) }
     ensures first { IfSome result (λ parts. runs_in bytes.now ≡ parts.0 ∷ runs_in parts.1.now) }
     ensures short { IfNone result (length bytes.now < 8) }
     ensures none { IfNone result (runs_in bytes.now ≡ []) }
 {
-    if bytes.len() < 8 {
-        return None;
-    }
-    Some((first_run(bytes), &bytes[8..]))
+    let ((start, len), rest) = split_pair(bytes)?;
+    Some((Run { start, len }, rest))
 }
 
 /// The run in place `i`.
+#[tactic(auto, using(crate::proofs::ByteLaws::runs_of_pairs))]
 pub fn run_at(bytes: &[u8], i: usize) -> Run
     requires { 8 * i + 8 ≤ length bytes.now }
     ensures { drop i (runs_in bytes.now) ≡ result ∷ drop (i + 1) (runs_in bytes.now) }
 {
-    first_run(&bytes[8 * i..])
+    let (start, len) = pair_at(bytes, i);
+    Run { start, len }
 }

@@ -109,3 +109,27 @@ fn agrees_on_strings_of_seven_numbers(rt: HostRuntime) -> Result<(), Fail> {
     }
     Ok(())
 }
+
+#[test]
+fn appends_a_row(rt: HostRuntime) -> Result<(), Fail> {
+    let mut bytes = vec![in rt.alloc(); 7]?;
+    append(RowForm::V1, &[0, 1, 2, 5], &mut bytes)?;
+    assert_eq!(rt; bytes.len(), 17);
+    assert_eq!(rt; &bytes[1..], ROW.as_slice());
+    assert_eq!(rt; encoded_len(RowForm::V1, &[0, 1, 2, 5]), 16);
+    Ok(())
+}
+
+#[test]
+fn tells_runs_and_the_same_row(rt: HostRuntime) -> Result<(), Fail> {
+    let row = check(RowForm::V1, &ROW, 6).ok_or("a row of six columns")?;
+    let mut ends = 0u64;
+    for run in row.runs() {
+        ends = ends.wrapping_mul(100).wrapping_add(run.end());
+    }
+    assert_eq!(rt; ends, 306);
+    let front = check(RowForm::V1, &ROW[..8], 6).ok_or("a row of one run")?;
+    assert!(rt; row.same(&row));
+    assert!(rt; !row.same(&front));
+    Ok(())
+}

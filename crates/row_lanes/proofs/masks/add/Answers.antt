@@ -1,6 +1,5 @@
-use Rattle.std.proofs.Common.{arith}
-use Rattle.row_lanes.proofs.SetLaws.{Has-add}
+use Rattle.row_lanes.proofs.SetLaws.{Has-add_within}
 use Rattle.row_lanes.proofs.masks.add.Goals as goal
 
-pub returns : goal.returns
-returns c = Has-add c.args.into.now c.args.n (omega arith)
+pub returns-then-place-into-clause-either : goal.returns-then-place-into-clause-either
+returns-then-place-into-clause-either c = Has-add_within c.args.into.now c.args.n c.if-place-into.true

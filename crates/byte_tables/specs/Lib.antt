@@ -1,0 +1,4 @@
+pub mod Numbers
+pub mod Pairs
+pub mod Pieces
+pub mod Writing

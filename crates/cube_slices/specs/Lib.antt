@@ -1,0 +1,5 @@
+pub mod Lines
+pub mod Pairs
+pub mod Slices
+pub mod Folds
+pub mod steps
