@@ -5,11 +5,7 @@
 .PHONY: example try gate runs bench random pages build
 
 INSTRUMENTS = hierarchy labels overview
-<<<<<<< HEAD
-BENCHES = bench_rows bench_lanes bench_terms bench_reading bench_results
-=======
-BENCHES = bench_rows bench_lanes bench_slices bench_terms bench_reading
->>>>>>> 878527528b1756b622c5cca00c11c15f03cba50e
+BENCHES = bench_rows bench_lanes bench_slices bench_terms bench_reading bench_numbers bench_results
 
 example: build
 	./bitmat ask examples/people.nt examples/friends.rq tsv | diff examples/friends.tsv -
