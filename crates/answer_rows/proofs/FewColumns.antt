@@ -1,5 +1,5 @@
 -- A query that keeps the limits has few columns: they differ, and each is the number of a name.
-use Rattle.std.proofs.Common.{◌≡◌, ◌≢◌, ℕ, ◌+◌, ◌<◌, ◌≤◌, ◌==◌, true, List, [], ◌∷◌, length, map, refl, sym, ◌∙◌, ap, subst, arith, All, AllPairs, eqb, get_or, eqb-true}
+use Rattle.std.proofs.Common.{◌≡◌, ◌≢◌, ℕ, ◌<◌, ◌≤◌, List, length, map, sym, ◌∙◌, ap, arith, All, AllPairs, get_or, eqb-true}
 use Rattle.std.proofs.lemmas.List.{get_or-map, length-map}
 use Rattle.std.proofs.lemmas.List.Elements.{All-contains}
 use Rattle.std.proofs.lemmas.Bool.Decides.{Decides-eqb}

@@ -1,5 +1,5 @@
 -- Rows that are put in order, or kept once, are rows of the list: what holds of each row holds of them.
-use Rattle.std.proofs.Common.{◌≡◌, ℕ, ◌<◌, Bool, true, false, if◌then◌else◌, List, length, refl, All, Contains, get_or}
+use Rattle.std.proofs.Common.{ℕ, Bool, true, false, if◌then◌else◌, List, refl, All, Contains, get_or}
 use Rattle.std.proofs.lemmas.List.Elements.{All-contains, Contains-get_or}
 use Rattle.std.proofs.lemmas.List.Sorted.{All-permutation}
 use Rattle.bm_term.specs.SetOf.{set_of}

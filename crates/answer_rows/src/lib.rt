@@ -7,6 +7,8 @@ mod cell;
 mod from_list;
 mod project;
 mod row_key;
+#[cfg(test)]
+mod tests;
 mod text_rows;
 
 pub use cell::Cell;

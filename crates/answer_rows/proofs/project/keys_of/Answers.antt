@@ -1,4 +1,3 @@
-use Rattle.std.proofs.Common.{◌++◌, ◌∷◌, [], take, ◌∙◌, ap}
 use Rattle.answer_rows.proofs.Lists.{take-next}
 use Rattle.answer_rows.proofs.project.keys_of.Goals as goal
 

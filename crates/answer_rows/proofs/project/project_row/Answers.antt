@@ -1,4 +1,4 @@
-use Rattle.std.proofs.Common.{◌<◌, ◌++◌, ◌∷◌, [], length, None, slice_index_or, ◌∙◌, ap}
+use Rattle.std.proofs.Common.{◌<◌, length, None, slice_index_or}
 use Rattle.std.proofs.lemmas.List.{get_or_read}
 use Rattle.answer_rows.proofs.Lists.{map-take_next, All-got}
 use Rattle.alg_model.specs.declared.var.Var.{Var}
