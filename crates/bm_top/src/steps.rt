@@ -115,12 +115,7 @@ fn print_decided<'a, W: World, S: BuildHasher + Copy + Drop>(
 }
 
 // The pattern of an accepted query is evaluated, and its answers are printed.
-fn print_asked<'a, W: World>(
-    alloc: Global,
-    asked: &Asked,
-    form: Form,
-    world: &mut W,
-) -> Ending<'a>
+fn print_asked<'a, W: World>(alloc: Global, asked: &Asked, form: Form, world: &mut W) -> Ending<'a>
     requires limits { KeepsLimits asked.now.query }
     requires each_once { AllPairs (λ t u. t ≢ u) asked.now.graph.items }
     ensures step { Step (W.told world.old) (W.told world.new) (EndsSo (answer_verdict form asked.now.query asked.now.graph.items) result) }

@@ -1,4 +1,4 @@
-use Rattle.std.proofs.Common.{◌<◌, ◌≤◌, length, refl, arith}
+use Rattle.std.proofs.Common.{◌<◌, length, refl, arith}
 use Rattle.std.proofs.lemmas.List.Elements.{All-weaker}
 use Rattle.alg_model.specs.Pattern.{algebra_of, vars_of}
 use Rattle.alg_model.proofs.VarSets.{pattern_fits}
@@ -19,8 +19,7 @@ named-requires c =
 pub returns-in_ok-named-in-Some : goal.returns-in_ok-named-in-Some
 returns-in_ok-named-in-Some c =
     let pattern = algebra_of c.args.query.now.pattern in
-    let below = All-weaker (λ var. var < length c.args.query.now.names) (λ var. var < 64) (λ var low. let few = c.requires.few_names in omega arith) (vars_of pattern) c.requires.pattern.vars_below in
-    (
+    let below = All-weaker (λ var. var < length c.args.query.now.names) (λ var. var < 64) (λ var low. let few = c.requires.few_names in omega arith) (vars_of pattern) c.requires.pattern.vars_below in (
       c.in-Some.refusal,
       (refusal_in-refused pattern (pattern_fits pattern below) c.in-Some.refusal).1 ((c.refusal_of.ensures.exactly c.in-Some.refusal).0 c.in-Some.is),
       c.in_ok-named-in-Some.ensures,
@@ -30,4 +29,4 @@ pub returns-in-None : goal.returns-in-None
 returns-in-None c =
     let pattern = algebra_of c.args.query.now.pattern in
     let below = All-weaker (λ var. var < length c.args.query.now.names) (λ var. var < 64) (λ var low. let few = c.requires.few_names in omega arith) (vars_of pattern) c.requires.pattern.vars_below in
-    (refusal_in-accepted pattern (pattern_fits pattern below)).1 (c.in-None.ensures.accepted.0 (rw c.in-None.is refl))
+    (refusal_in-accepted pattern (pattern_fits pattern below)).1 (c.in-None.ensures.accepted.0 refl)
