@@ -225,7 +225,8 @@ SELECT * { ?x <urn:p> ?y FILTER(u:a) } => unsupported FILTER at byte 25
 "#;
 
 /// Patterns that are not well designed, and variables at places that are not answered. A fault of the text comes first.
-const PATTERNS: &str = r#"SELECT * { ?x <urn:a> ?u OPTIONAL { ?x <urn:b> ?y } ?y <urn:c> ?v } => not well designed: optional 1, variable ?y
+const PATTERNS: &str =
+    r#"SELECT * { ?x <urn:a> ?u OPTIONAL { ?x <urn:b> ?y } ?y <urn:c> ?v } => not well designed: optional 1, variable ?y
 SELECT * { OPTIONAL { ?y <urn:p> ?z } ?x <urn:p> ?y } => not well designed: optional 1, variable ?y
 SELECT ?v ?u { ?x <urn:p> ?y OPTIONAL { ?u <urn:p> ?v } OPTIONAL { ?v <urn:p> ?u } } => not well designed: optional 1, variable ?v
 SELECT * { ?x <urn:p> ?y OPTIONAL { ?y <urn:p> ?z OPTIONAL { ?z <urn:p> ?x } } } => not well designed: optional 2, variable ?x

@@ -31,7 +31,7 @@ parts-among (LeftJoin left right) outside =
     All-append (IsAmong vars) (optionals_beside (outside ++ vars_of right) left) _
     (All-weaker (IsAmong (vars_of left)) (IsAmong vars) (λ part is var at. Contains-append_left (vars_of left) (vars_of right) var (is var at)) _ (parts-among left (outside ++ vars_of right)))
     (All-cons (IsAmong vars) _ _ (λ var at. Contains-append_right (vars_of left) (vars_of right) var at)
-      (All-weaker (IsAmong (vars_of right)) (IsAmong vars) (λ part is var at. Contains-append_right (vars_of left) (vars_of right) var (is var at)) _ (parts-among right (outside ++ vars_of left))))
+    (All-weaker (IsAmong (vars_of right)) (IsAmong vars) (λ part is var at. Contains-append_right (vars_of left) (vars_of right) var (is var at)) _ (parts-among right (outside ++ vars_of left))))
 
 offender-occurs : (pattern : Algebra) (number var : ℕ) → IsOffender pattern number var → Contains (vars_of pattern) var
 offender-occurs pattern number var is =
