@@ -7,7 +7,9 @@ PROGRAM is the built `bitmat`. Each of COUNT rounds (1000 where none is said) ma
 nested and OPTIONAL ones, blocks with `;` and `,`, terms in several spellings, `*` or variables, DISTINCT or not. Some are
 not well designed, or have variables at places that are not answered. The evaluator here goes by the query's tree, from
 which its text was made, so it shares nothing with the program: neither a parser nor an algebra. It tells the line of a
-refusal too. The first difference is printed whole and ends the run with status 1."""
+refusal too. Each query is asked in both forms: JSON is read back by Python's own reader. The first difference is printed
+whole and ends the run with status 1."""
+import json
 import os
 import random
 import subprocess
@@ -193,6 +195,31 @@ def evaluate(group, triples):
     return rows
 
 
+ESCAPES = str.maketrans({'"': '\\"', "\\": "\\\\", "\n": "\\n", "\r": "\\r", "\t": "\\t"})
+
+
+def term_text(term):
+    """The text of a term of a JSON result."""
+    if term["type"] == "uri":
+        return f"<{term['value']}>"
+    if term["type"] == "bnode":
+        return f"_:{term['value']}"
+    text = '"' + term["value"].translate(ESCAPES) + '"'
+    if "xml:lang" in term:
+        return f"{text}@{term['xml:lang']}"
+    return f"{text}^^<{term['datatype']}>" if "datatype" in term else text
+
+
+def as_tsv(text):
+    """A JSON result as the tab-separated values that say the same."""
+    result = json.loads(text)
+    names = result["head"]["vars"]
+    lines = ["\t".join("?" + name for name in names)]
+    for row in result["results"]["bindings"]:
+        lines.append("\t".join(term_text(row[name]) if name in row else "" for name in names))
+    return "".join(line + "\n" for line in lines)
+
+
 def make_round(pick):
     """Data, a query, the line of its refusal, and what is to be printed."""
     triples, data = make_data(pick)
@@ -214,6 +241,13 @@ def make_round(pick):
     return data, query, "", "".join(line + "\n" for line in lines), len(rows)
 
 
+def ask(program, folder, form):
+    """The status, the line and the answers, as tab-separated values in either form."""
+    run = subprocess.run([program, "ask", "d", "q", form], cwd=folder, capture_output=True)
+    text = run.stdout.decode()
+    return run.returncode, run.stderr.decode(), as_tsv(text) if form == "json" and text else text
+
+
 def main():
     program = os.path.abspath(sys.argv[1])
     count = int(sys.argv[2]) if len(sys.argv) > 2 else 1000
@@ -227,11 +261,9 @@ def main():
             for name, text in [("d", data), ("q", query)]:
                 with open(os.path.join(folder, name), "w") as file:
                     file.write(text)
-            run = subprocess.run([program, "ask", "d", "q", "tsv"], cwd=folder, capture_output=True)
-            status = 3 if refused else 0
-            if (run.returncode, run.stderr.decode(), run.stdout.decode()) != (status, refused, wanted):
-                got = run.stdout.decode() + run.stderr.decode()
-                print(f"data\n{data}query\n{query}\nwanted\n{refused}{wanted}got status {run.returncode}\n{got}")
+            got = [ask(program, folder, form) for form in ("tsv", "json")]
+            if got != [(3 if refused else 0, refused, wanted)] * 2:
+                print(f"data\n{data}query\n{query}\nwanted\n{refused}{wanted}got\n{got}")
                 return 1
     print(f"{count} queries, {refusals} refused, {rows} rows, no difference")
     return 0

@@ -3,3 +3,4 @@ mod Examples
 mod FewColumns
 mod Kept
 mod Lists
+pub mod Moved

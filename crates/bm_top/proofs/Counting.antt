@@ -1,5 +1,5 @@
 -- A graph keeps the limit of its triples, or does not.
-use Rattle.std.proofs.Common.{◌≡◌, ℕ, ◌<◌, ◌≤◌, true, List, length, ap, arith}
+use Rattle.std.proofs.Common.{◌≡◌, ◌<◌, ◌≤◌, true, List, length, ap, arith}
 use Rattle.std.proofs.lemmas.Bool.{le-ltb}
 use Rattle.std.proofs.lemmas.Grind.{common_steps}
 use Rattle.bm_term.specs.declared.triple.Triple.{Triple}

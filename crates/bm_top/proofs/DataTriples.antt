@@ -1,7 +1,7 @@
 -- The triples that a list has taken from a reader of data.
 use Rattle.std.proofs.Common.{◌≡◌, List, [], ◌∷◌, ◌++◌, ℕ, All, Result, Ok, Err, Vec, IfOk, refl, sym, subst, ap, ◌∙◌}
 use Rattle.std.specs.declared.alloc.Global.{Global}
-use Rattle.std.proofs.lemmas.List.Elements.{All-append, All-cons, All-nil}
+use Rattle.std.proofs.lemmas.List.Elements.{All-cons, All-nil}
 use Rattle.bm_term.specs.declared.triple.Triple.{Triple}
 use Rattle.bm_term.specs.Triple.{IsRdfTriple}
 use Rattle.bm_term.specs.Kept.{Kept, HasTaken, unlimited}

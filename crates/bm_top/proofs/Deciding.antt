@@ -1,14 +1,13 @@
 -- The verdict once both files have been read.
-use Rattle.std.proofs.Common.{◌≡◌, ◌≢◌, ℕ, ◌≤◌, ◌<◌, List, None, Ok, Err, inl, inr, sym, ◌∙◌, ap, subst, length}
+use Rattle.std.proofs.Common.{◌≡◌, ◌≢◌, ℕ, ◌≤◌, ◌<◌, List, None, Ok, Err, inl, inr, refl, sym, ◌∙◌, ap, length}
 use Rattle.bm_term.specs.declared.triple.Triple.{Triple}
-use Rattle.bm_term.specs.Graph.{graph_of}
 use Rattle.alg_model.specs.declared.query.Query.{Query}
 use Rattle.alg_model.specs.Answers.{answers_to}
 use Rattle.alg_model.specs.Pattern.{algebra_of}
 use Rattle.alg_model.specs.Query.{abstract_of}
 use Rattle.nt_read.specs.declared.lines.FeedFault.{FeedFault}
 use Rattle.nt_read.specs.declared.lines.FeedFault.TheVariants as feed_faults
-use Rattle.nt_read.specs.scanning.Lines.{first_bad, lines_of, triples_of}
+use Rattle.nt_read.specs.scanning.Lines.{first_bad}
 use Rattle.term_numbers.specs.declared.fault.NumberFault.{NumberFault}
 use Rattle.term_numbers.specs.declared.fault.NumberFault.TheVariants as number_faults
 use Rattle.sparql_parse.specs.computed.Reading.{query_reading, IsMemoryOr}
@@ -19,12 +18,12 @@ use Rattle.result_write.specs.declared.form.Form.{Form}
 use Rattle.result_write.specs.ResultText.{result_text}
 use Rattle.bm_top.specs.declared.decide.Undecided.{Undecided}
 use Rattle.bm_top.specs.declared.decide.Undecided.TheVariants as undecided
-use Rattle.bm_top.specs.Lines.{fault_line, too_many_triples_line}
+use Rattle.bm_top.specs.Lines.{fault_line}
 use Rattle.bm_top.specs.Verdict.{answered, refused}
 use Rattle.bm_top.specs.steps.Data.{IsDataOf}
 use Rattle.bm_top.specs.steps.Decide.{IsAcceptance, IsDecided, from_data, from_numbers, from_query}
 use Rattle.bm_top.specs.steps.Printing.{answer_verdict}
-use Rattle.bm_top.specs.steps.VerdictOf.{accepting, answering, counting, deciding, decided, graph_in}
+use Rattle.bm_top.specs.steps.VerdictOf.{accepting, answering, deciding, decided, graph_in}
 use Rattle.bm_top.proofs.Counting.{few-counted, many-counted}
 
 -- the data was refused

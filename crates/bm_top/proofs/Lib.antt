@@ -1,4 +1,3 @@
-pub mod Arranged
 pub mod Counting
 pub mod DataTriples
 pub mod Deciding

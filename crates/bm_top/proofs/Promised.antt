@@ -1,8 +1,8 @@
 -- A command that ended so, and then complained its line, keeps what the program promises.
-use Rattle.std.proofs.Common.{◌≡◌, ◌⊎◌, inl, inr, ℕ, List, None, Option, Result, Some, OnErr, IsSomeAnd, refl, sym, ◌∙◌, ap, subst, arith}
+use Rattle.std.proofs.Common.{◌≡◌, ◌⊎◌, inl, inr, ℕ, List, None, Option, Result, OnErr, IsSomeAnd, sym, ap, subst, arith}
 use Rattle.bm_world.specs.declared.world.Failed.{Failed}
 use Rattle.bm_world.specs.declared.world.Faults.{Faults}
-use Rattle.bm_world.specs.Meanings.{Files, Meanings, with_complained}
+use Rattle.bm_world.specs.Meanings.{Meanings, with_complained}
 use Rattle.bm_world.specs.World.{AppendsAll, Rose, Step}
 use Rattle.bm_world.proofs.Steps.{Step-then}
 use Rattle.bm_top.specs.declared.ending.Ending.{Ending}

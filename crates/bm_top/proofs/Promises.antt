@@ -1,5 +1,5 @@
 -- What is known at the end of a command, and of what was complained then, is what the program promises.
-use Rattle.std.proofs.Common.{◌≡◌, ◌≢◌, ◌⊎◌, inl, inr, ℕ, List, [], ◌++◌, length, take, Contains, Option, Some, None, Result, Ok, Err, OnErr, IsSomeAnd, refl, sym, ◌∙◌, ap, subst, arith, zero, suc}
+use Rattle.std.proofs.Common.{◌≡◌, ◌≢◌, ◌⊎◌, inl, inr, ℕ, List, [], ◌++◌, length, take, Option, Some, None, Result, Ok, Err, OnErr, IsSomeAnd, refl, sym, ◌∙◌, ap, subst, arith, zero, suc}
 use Rattle.std.proofs.lemmas.List.{append-nil}
 use Rattle.std.proofs.Math.Seq.{take-length}
 use Rattle.bm_world.specs.declared.world.Faults.{Faults}

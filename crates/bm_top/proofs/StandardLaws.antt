@@ -1,5 +1,5 @@
 -- Words and files have exactly one verdict: the one that the function gives.
-use Rattle.std.proofs.Common.{◌≡◌, ◌≢◌, ◌↔◌, inl, inr, ℕ, ◌<◌, ◌≤◌, ◌⊎◌, true, nat_lt, if◌then◌else◌, List, ◌++◌, length, Option, Some, None, Result, Ok, Err, refl, sym, ap, subst, ◌∙◌, arith}
+use Rattle.std.proofs.Common.{◌≡◌, ◌↔◌, inl, inr, ℕ, ◌<◌, ◌≤◌, ◌⊎◌, true, nat_lt, if◌then◌else◌, List, ◌++◌, length, Option, Some, None, Result, Ok, Err, refl, sym, ap, subst, ◌∙◌, arith}
 use Rattle.std.specs.FinMap.{get}
 use Rattle.std.proofs.lemmas.Bool.{le-ltb, cases_lt}
 use Rattle.std.proofs.lemmas.Grind.{common_steps}
@@ -25,20 +25,18 @@ use Rattle.sparql_parse.proofs.DenotedLimits.{denoted-names, denoted-pattern}
 use Rattle.sparql_parse.proofs.DenotingLaws.{reading-denotes, denotes-reading, reading-is_fault, fault-reading}
 use Rattle.well_designed.specs.declared.refusals.Refusal.{Refusal}
 use Rattle.well_designed.specs.Computed.{refusal_in}
-use Rattle.well_designed.specs.Refusals.{IsRefused}
 use Rattle.well_designed.proofs.ComputedRefusal.{refusal_in-accepted, refusal_in-refused}
 use Rattle.result_write.specs.declared.form.Form.{Form}
 use Rattle.result_write.specs.ResultText.{result_text}
 use Rattle.bm_world.specs.declared.world.Faults.{Faults}
 use Rattle.bm_world.specs.Meanings.{Files, Meanings}
-use Rattle.bm_world.specs.World.{Step}
 use Rattle.bm_top.specs.Command.{Request, ask, request_of}
-use Rattle.bm_top.specs.Lines.{max_data_bytes, max_query_bytes, usage_line, read_fault_line, limit_line, too_many_triples_line, bad_line_line, fault_line, pattern_line}
+use Rattle.bm_top.specs.Lines.{max_data_bytes, max_query_bytes, limit_line, too_many_triples_line, bad_line_line, fault_line, pattern_line}
 use Rattle.bm_top.specs.Run.{IsComplete, Outputs, Prints}
 use Rattle.bm_top.specs.Standard.{IsGraphOf, IsAnswer, IsBadData, HasTooManyTriples, IsRefusal, IsRefusedText, has_fault, has_pattern, IsDecidedBy, missing, too_long, read, IsAnswerOrRefusal, bad_data, too_many, bad_query, answer, IsAskVerdict, IsVerdict, usage, asks, Asks}
 use Rattle.bm_top.specs.Verdict.{Verdict, answered, refused}
 use Rattle.bm_top.proofs.Counting.{few-counted, many-counted}
-use Rattle.bm_top.specs.steps.VerdictOf.{accepting, answering, counting, has_too_many, graph_in, within, reading_file, reading, deciding, decided, query_verdict, request_verdict, verdict_at, verdict_of}
+use Rattle.bm_top.specs.steps.VerdictOf.{accepting, answering, graph_in, within, reading_file, reading, deciding, decided, query_verdict, request_verdict, verdict_at, verdict_of}
 
 -- data without a bad line, and its graph
 record IsRead (bytes : List ℕ) (graph : List Triple) : Type 0 where

@@ -18,7 +18,7 @@ use Rattle.bm_top.specs.declared.ending.Ending.TheVariants as ends
 use Rattle.bm_top.specs.steps.Decide.{IsDecided}
 use Rattle.bm_top.specs.Lines.{read_fault_line, limit_line}
 use Rattle.bm_top.specs.Run.{OpensInTurn}
-use Rattle.bm_top.specs.Verdict.{Verdict, answered, refused, files_after}
+use Rattle.bm_top.specs.Verdict.{Verdict, answered, refused}
 use Rattle.bm_top.specs.steps.VerdictOf.{decided, reading, reading_file}
 use Rattle.bm_top.specs.steps.Printing.{after_writing}
 use Rattle.result_write.specs.declared.form.Form.{Form}

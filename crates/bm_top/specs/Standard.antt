@@ -1,7 +1,7 @@
 -- What a command is to do: by the relations of what lines spell and what a text denotes, and by the definitions of the
 -- algebra, of the order of rows and of the text. Nothing here tells how data or a query is read.
 -- N-Triples 1.1, section 7; SPARQL 1.1 Query, sections 18.2, 18.5 and 19.8.
-use Rattle.std.specs.Prelude.{◌≡◌, ◌⊎◌, ℕ, ◌<◌, ◌≤◌, List, ◌++◌, length, None, Some}
+use Rattle.std.specs.Prelude.{◌≡◌, ℕ, ◌<◌, ◌≤◌, List, length, None, Some}
 use Rattle.std.specs.FinMap.{get}
 use Rattle.bm_term.specs.declared.triple.Triple.{Triple}
 use Rattle.bm_term.specs.Graph.{IsGraph}

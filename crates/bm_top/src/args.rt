@@ -9,6 +9,7 @@ ghost use Rattle.bm_top.specs.Run.{KeepsPromises};
 use crate::top::perform_words;
 use bm_world::World;
 use std::alloc::{AllocError, Global};
+use std::hash::BuildHasher;
 use std::{env, io};
 
 const OUT_OF_MEMORY: u8 = 7;
@@ -17,8 +18,14 @@ const NO_WORDS: u8 = 9;
 
 /// What the program does with what the system gives as its words, the first of which is its name: `run` of the others,
 /// or status 7 where they find no room. Where the system gives none, the status is 7 for want of memory and 9 for any
-/// other cause, and nothing moves.
-pub fn run_args<W: World>(alloc: Global, args: io::Result<env::Args>, world: &mut W) -> u8
+/// other cause, and nothing moves. The texts of terms are hashed as `hashers` says: by keys that no stranger can choose,
+/// where they are drawn at random.
+pub fn run_args<W: World, S: BuildHasher + Copy + Drop>(
+    alloc: Global,
+    hashers: S,
+    args: io::Result<env::Args>,
+    world: &mut W,
+) -> u8
     ensures words { IfOk args (λ given.
         KeepsPromises (map string_bytes (drop 1 (into_iter_items given))) (W.told world.old) (W.told world.new)
         (W.faults world.old) (W.faults world.new) result ⊎ (result ≡ 7)) }
@@ -28,7 +35,7 @@ pub fn run_args<W: World>(alloc: Global, args: io::Result<env::Args>, world: &mu
 {
     match args {
         Ok(args) => match after_name(alloc, args) {
-            Ok(words) => perform_words(alloc, &words, world),
+            Ok(words) => perform_words(alloc, hashers, &words, world),
             Err(AllocError) => OUT_OF_MEMORY,
         },
         Err(error) => status_without_words(error.kind()),

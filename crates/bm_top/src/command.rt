@@ -38,7 +38,7 @@ pub(crate) fn parse_words(words: &[String]) -> Option<Command<'_>>
 
 /// Asks in a form, if there is one.
 fn ask_in<'a>(data: &'a str, query: &'a str, form: Option<Form>) -> Option<Command<'a>>
-    ensures { option_map requested result ≡ option_map (ask «data».entry query.entry) form }
+    ensures { option_map requested result ≡ option_map (ask «data».now query.now) form }
 {
     match form {
         Some(form) => Some(Command { data, query, form }),

@@ -10,7 +10,8 @@ use bm_term::Triple;
 use nt_read::FeedFault;
 use sparql_parse::{QueryFault, parse_query};
 use std::alloc::{AllocError, Global};
-use term_numbers::{NumberFault, number};
+use std::hash::BuildHasher;
+use term_numbers::{NumberFault, number_by};
 
 /// The distinct triples that a graph may have.
 const MAX_TRIPLES: u32 = 8_388_608;
@@ -88,12 +89,17 @@ impl From<AllocError> for Undecided {
 
 /// The query that is asked and its graph, or why there is no answer: the first bad line, then too many triples, and then
 /// the refusal of the query. The data is let go once its triples are read.
-pub(crate) fn decide(alloc: Global, data: Vec<u8>, query: &[u8]) -> Result<Asked, Undecided>
+pub(crate) fn decide<S: BuildHasher + Copy + Drop>(
+    alloc: Global,
+    hashers: S,
+    data: Vec<u8>,
+    query: &[u8],
+) -> Result<Asked, Undecided>
     ensures { IsDecided «data».items query.now result }
 {
     let triples = read_data(alloc, &data)?;
     drop(data);
-    let numbers = number(alloc, &triples, MAX_TRIPLES)?;
+    let numbers = number_by(alloc, hashers, &triples, MAX_TRIPLES)?;
     drop(numbers);
     let query = parse_query(alloc, query)?;
     accept(alloc, &query)?;

@@ -8,7 +8,7 @@ ghost use Rattle.alg_model.specs.Answers.{arranged};
 ghost use Rattle.alg_model.specs.Limits.{KeepsLimits};
 ghost use Rattle.alg_model.specs.Query.{abstract_of};
 ghost use Rattle.result_write.specs.ResultText.{result_text};
-ghost use Rattle.bm_top.specs.Command.{names_read};
+ghost use Rattle.bm_top.specs.Command.{files_read, names_read};
 ghost use Rattle.bm_top.specs.Verdict.{answered};
 ghost use Rattle.bm_top.specs.steps.Ending.{EndsSo, HasReason, after_deciding, after_reading, status_of};
 ghost use Rattle.bm_top.specs.steps.Printing.{after_writing, answer_verdict};
@@ -25,6 +25,7 @@ use alg_model::{Query, RowList};
 use bm_world::{ReadEnd, World, read_all};
 use result_write::{Form, WriteEnd, write_rows};
 use std::alloc::{AllocError, Global};
+use std::hash::BuildHasher;
 
 /// The bytes that a data file may have.
 const MAX_DATA_BYTES: u64 = 536_870_912;
@@ -33,8 +34,9 @@ const MAX_DATA_BYTES: u64 = 536_870_912;
 const MAX_QUERY_BYTES: u64 = 1_048_576;
 
 /// Does what a command asks for, if there is one.
-pub(crate) fn perform<'a, W: World>(
+pub(crate) fn perform<'a, W: World, S: BuildHasher + Copy + Drop>(
     alloc: Global,
+    hashers: S,
     command: Option<Command<'a>>,
     world: &mut W,
 ) -> Ending<'a>
@@ -46,29 +48,35 @@ pub(crate) fn perform<'a, W: World>(
     ensures opens { Step (W.told world.old) (W.told world.new) (OpensInTurn (names_read (option_map requested command.entry))) }
 {
     match command {
-        Some(ask) => perform_ask(alloc, ask, world),
+        Some(ask) => perform_ask(alloc, hashers, ask, world),
         None => Ending::Refused {
             refusal: Refusal::Usage,
         },
     }
 }
 
-fn perform_ask<'a, W: World>(alloc: Global, ask: Command<'a>, world: &mut W) -> Ending<'a>
+fn perform_ask<'a, W: World, S: BuildHasher + Copy + Drop>(
+    alloc: Global,
+    hashers: S,
+    ask: Command<'a>,
+    world: &mut W,
+) -> Ending<'a>
     ensures step { Step (W.told world.old) (W.told world.new) (λ m n.
-        EndsSo (request_verdict m.files (requested ask)) result m n) }
-    ensures reason { HasReason (λ files. request_verdict files (requested ask)) (ask.data.entry ∷ ask.query.entry ∷ [])
+        EndsSo (request_verdict m.files (requested ask.entry)) result m n) }
+    ensures reason { HasReason (λ files. request_verdict files (requested ask.entry)) (files_read (requested ask.entry))
         (W.told world.old) (W.faults world.old) (W.faults world.new) result }
-    ensures opens { Step (W.told world.old) (W.told world.new) (OpensInTurn (ask.data.entry ∷ ask.query.entry ∷ [])) }
+    ensures opens { Step (W.told world.old) (W.told world.new) (OpensInTurn (files_read (requested ask.entry))) }
 {
     match read_all(alloc, world, ask.data, MAX_DATA_BYTES) {
-        Ok(bytes) => ask_of_data(alloc, bytes, ask.query, ask.form, world),
+        Ok(bytes) => ask_of_data(alloc, hashers, bytes, ask.query, ask.form, world),
         Err(end) => read_ending(end, ask.data, MAX_DATA_BYTES),
     }
 }
 
 // The steps of `ask` that are left when the data has been read.
-fn ask_of_data<'a, W: World>(
+fn ask_of_data<'a, W: World, S: BuildHasher + Copy + Drop>(
     alloc: Global,
+    hashers: S,
     data: Vec<u8>,
     query: &'a str,
     form: Form,
@@ -81,14 +89,15 @@ fn ask_of_data<'a, W: World>(
     ensures opens { Step (W.told world.old) (W.told world.new) (OpensInTurn (query.now ∷ [])) }
 {
     match read_all(alloc, world, query, MAX_QUERY_BYTES) {
-        Ok(text) => print_decided(alloc, data, &text, form, world),
+        Ok(text) => print_decided(alloc, hashers, data, &text, form, world),
         Err(end) => read_ending(end, query, MAX_QUERY_BYTES),
     }
 }
 
 // The steps of `ask` that are left when both files have been read.
-fn print_decided<'a, W: World>(
+fn print_decided<'a, W: World, S: BuildHasher + Copy + Drop>(
     alloc: Global,
+    hashers: S,
     data: Vec<u8>,
     query: &[u8],
     form: Form,
@@ -99,7 +108,7 @@ fn print_decided<'a, W: World>(
         (W.told world.old) (W.faults world.old) (W.faults world.new) result }
     ensures opens { Step (W.told world.old) (W.told world.new) (OpensInTurn []) }
 {
-    match decide(alloc, data, query) {
+    match decide(alloc, hashers, data, query) {
         Ok(asked) => print_asked(alloc, &asked, form, world),
         Err(undecided) => undecided_ending(undecided),
     }

@@ -12,6 +12,7 @@ use crate::complain::complain_ending;
 use crate::steps::perform;
 use bm_world::World;
 use std::alloc::Global;
+use std::hash::{BuildHasher, BuildHasherDefault, DefaultHasher};
 
 /// Does everything that the program does. `words` are the words after the program's name. The result is
 /// the status: 0 where the answers were printed; 1 where the words are no command; 2 where the data has a
@@ -62,15 +63,21 @@ pub fn run<W: World>(alloc: Global, words: &[String], world: &mut W) -> u8
     ensures opens { Step (W.told world.old) (W.told world.new)
         (OpensInTurn (names_read (request_of (map string_bytes words.now)))) }
 {
-    perform_words(alloc, words, world)
+    let hashers: BuildHasherDefault<DefaultHasher> = BuildHasherDefault::new();
+    perform_words(alloc, hashers, words, world)
 }
 
-/// What `run` does, with all its promises as one.
-pub(crate) fn perform_words<W: World>(alloc: Global, words: &[String], world: &mut W) -> u8
+/// What `run` does, with all its promises as one. Texts are hashed as the caller says.
+pub(crate) fn perform_words<W: World, S: BuildHasher + Copy + Drop>(
+    alloc: Global,
+    hashers: S,
+    words: &[String],
+    world: &mut W,
+) -> u8
     ensures { KeepsPromises (map string_bytes words.now) (W.told world.old) (W.told world.new)
         (W.faults world.old) (W.faults world.new) result }
 {
-    let ending = perform(alloc, parse_words(words), world);
+    let ending = perform(alloc, hashers, parse_words(words), world);
     let _ = complain_ending(&ending, world);
     ending.status()
 }

@@ -10,6 +10,8 @@ mod data;
 #[cfg(test)]
 mod failures;
 #[cfg(test)]
+mod json;
+#[cfg(test)]
 mod queries;
 #[cfg(test)]
 mod refusals;

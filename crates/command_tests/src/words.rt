@@ -9,7 +9,7 @@ const USAGE: &str =
 const WORDS: [(&[&str], u8, &str); 7] = [
     (&[], 1, USAGE),
     (&["ask", "d", "q"], 1, USAGE),
-    (&["ask", "d", "q", "json"], 1, USAGE),
+    (&["ask", "d", "q", "xml"], 1, USAGE),
     (&["ask", "d", "q", "tsv", "x"], 1, USAGE),
     (&["--help"], 1, USAGE),
     (&["ask", "e", "q", "tsv"], 5, "read fault: e\n"),

@@ -11,7 +11,6 @@ use Rattle.bm_top.specs.declared.decide.Undecided.TheVariants as undecided
 use Rattle.bm_top.specs.declared.ending.Ending.{Ending}
 use Rattle.bm_top.specs.declared.ending.Ending.TheVariants as ends
 use Rattle.bm_top.specs.declared.refusal.Refusal.TheVariants as refusals
-use Rattle.bm_top.specs.Command.{Request}
 use Rattle.bm_top.specs.Lines.{refusal_status, refusal_line, read_fault_line, write_fault_line, out_of_memory_line}
 use Rattle.bm_top.specs.Verdict.{Verdict, refused, files_after, HasFrontOf}
 

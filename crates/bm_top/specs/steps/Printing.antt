@@ -17,7 +17,7 @@ use Rattle.bm_top.specs.declared.ending.Ending.TheVariants as ends
 
 -- the rows are those of the query's pattern, in some order, with a cell for each name
 pub record IsEvaluated (query : Query) (graph : List Triple) (rows : List (Row (List ℕ))) : Type 0 where
-  pub rows : IsPermutation (eval as_terms (length query.names) (algebra_of query.pattern) graph) rows
+  pub same : IsPermutation (eval as_terms (length query.names) (algebra_of query.pattern) graph) rows
   pub width : All (λ row. length row ≡ length query.names) rows
 
 -- the verdict of a query that is answered

@@ -1,5 +1,5 @@
 -- Carries proofs only: the verdict of a command as a function that reads the data and the query.
-use Rattle.std.specs.Prelude.{ℕ, Bool, List, [], ◌++◌, Option, Some, None, Result, Ok, Err, nat_lt, length, if◌then◌else◌}
+use Rattle.std.specs.Prelude.{ℕ, Bool, List, Option, Some, None, Result, Ok, Err, nat_lt, length, if◌then◌else◌}
 use Rattle.std.specs.FinMap.{get}
 use Rattle.bm_term.specs.Graph.{graph_of}
 use Rattle.alg_model.specs.Answers.{answers_to}

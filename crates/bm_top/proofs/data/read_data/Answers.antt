@@ -1,5 +1,4 @@
-use Rattle.std.proofs.Common.{◌∙◌, Vec, Ok, All, subst, sym}
-use Rattle.bm_term.specs.Triple.{IsRdfTriple}
+use Rattle.std.proofs.Common.{◌∙◌, Ok}
 use Rattle.nt_read.specs.scanning.Lines.{lines_of, triples_of}
 use Rattle.bm_top.proofs.DataTriples.{list_taken, data-rdf}
 use Rattle.bm_top.proofs.data.read_data.Goals as goal

@@ -1,4 +1,4 @@
-use Rattle.std.proofs.Common.{◌≤◌, [], ◌∷◌, Ok, Err, length, ap, refl, arith}
+use Rattle.std.proofs.Common.{◌≤◌, [], Err, length, ap, refl, arith}
 use Rattle.bm_world.specs.Meanings.{Meanings}
 use Rattle.bm_world.proofs.Steps.{Step-then, Step-weaken}
 use Rattle.bm_top.specs.steps.VerdictOf.{decided, query_verdict}
