@@ -24,7 +24,11 @@ const ROWS: [[&str; 3]; 4] = [
         "\"Douglas Adams\"@en",
         "\"1952-03-11T00:00:00Z\"^^<http://www.w3.org/2001/XMLSchema#dateTime>",
     ],
-    ["<http://www.wikidata.org/entity/Q42>", "\"Дуглас Адамс\"@ru", ""],
+    [
+        "<http://www.wikidata.org/entity/Q42>",
+        "\"Дуглас Адамс\"@ru",
+        "",
+    ],
     [
         "_:b0123456789abcdef",
         "\"So long, and thanks for all the fish.\\nThe fourth of five books.\"",
@@ -73,7 +77,12 @@ fn time(rt: &HostRuntime, form: Form, name: &str, rows: &TextRows<'_>) -> io::Re
     if let Err(WriteEnd::Memory) = end {
         return Err(AllocError.into());
     }
-    println!(rt; "{name}: {} rows, {} bytes, {} calls", rows.len(), world.bytes, world.calls)?;
+    println!(rt;
+        "{name}: {} rows, {} bytes, {} calls",
+        rows.len(),
+        world.bytes,
+        world.calls
+    )?;
     eprintln!(rt; "{name}: {taken:?}")
 }
 

@@ -1,7 +1,6 @@
 //! The object of a term, as it is sent to the writer of JSON.
 ghost use Rattle.std.specs.Prelude.{◌≡◌, [], ◌∷◌, codes, OnOk};
 ghost use Rattle.std.specs.Str.{IsUtf8};
-
 ghost use Rattle.serde_json.specs.Events.{SendsValue};
 ghost use Rattle.bm_term.specs.TermRef.{text_of};
 ghost use Rattle.result_write.specs.held.Written.{SendsString, is_literal, strings_object, kind_data, cell_data};

@@ -8,7 +8,6 @@ ghost use Rattle.result_write.specs.ResultText.{result_text};
 ghost use Rattle.result_write.specs.Tsv.{tsv_text};
 ghost use Rattle.result_write.specs.JsonResult.{json_text};
 
-
 use crate::column::columns_by_name;
 use crate::json_result::JsonParts;
 use crate::pieces::print_pieces;

@@ -8,4 +8,4 @@ use Rattle.result_write.proofs.json_row.send_names.Given as goal
 abbrev pub invariant-loop-name : goal.invariant-loop-name
 invariant-loop-name g l =
     (end : Log) → SendsItems (names_data (map string_bytes (drop l.name-index l.names))) (g.S.Serializer.written l.out) end
-        → SendsItems (names_data (map string_bytes l.names)) (g.S.Serializer.written l.initial.out) end
+    → SendsItems (names_data (map string_bytes l.names)) (g.S.Serializer.written l.initial.out) end

@@ -17,7 +17,7 @@ loop-column-preserved g c = λ end rest.
     let column = c.column-item.result in
     let here = drop-item columns i column c.loop-column-test.true c.column-item.is in
     c.loop-column.invariant end (subst (λ left. SendsMembers (bound_data row (map named left)) (g.S.Serializer.written c.loop-column.out) end) (sym here)
-        (sends_more (string_bytes column.name) (slice_index_or row column.place None) (bound_data row (map named (drop (i + 1) columns))) (g.S.Serializer.written c.loop-column.out) (g.S.Serializer.written c.send_column.new.out) end c.in_ok-send_column.ensures rest))
+    (sends_more (string_bytes column.name) (slice_index_or row column.place None) (bound_data row (map named (drop (i + 1) columns))) (g.S.Serializer.written c.loop-column.out) (g.S.Serializer.written c.send_column.new.out) end c.in_ok-send_column.ensures rest))
 
 pub returns : goal.returns
 unfolding row_data

@@ -9,4 +9,4 @@ use Rattle.result_write.proofs.json_row.send_row.Given as goal
 abbrev pub invariant-loop-column : goal.invariant-loop-column
 invariant-loop-column g l =
     (end : Log) → SendsMembers (bound_data l.cells (map named (drop l.column-index l.columns))) (g.S.Serializer.written l.out) end
-        → SendsMembers (bound_data l.cells (map named l.columns)) (g.S.Serializer.written l.initial.out) end
+    → SendsMembers (bound_data l.cells (map named l.columns)) (g.S.Serializer.written l.initial.out) end

@@ -9,7 +9,17 @@ returns g c =
     on_ok_weaker c.end_map.result (λ end. (
       g.S.Serializer.written c.begin_map.new.self,
       c.in_ok-begin_map.ensures,
-      (first.named, g.S.Serializer.written c.send_string.new.out, first.key, first.string,
-      (second.named, g.S.Serializer.written c.send_string-2.new.out, second.key, second.string,
-      (third.named, g.S.Serializer.written c.send_string-3.new.out, third.key, third.string, end))),
+      (
+        first.named,
+        g.S.Serializer.written c.send_string.new.out,
+        first.key,
+        first.string,
+        (
+          second.named,
+          g.S.Serializer.written c.send_string-2.new.out,
+          second.key,
+          second.string,
+          (third.named, g.S.Serializer.written c.send_string-3.new.out, third.key, third.string, end),
+        ),
+      ),
     )) c.end_map.ensures

@@ -17,6 +17,6 @@ returns-clause-step g c =
     let names = ap (map string_bytes) c.deref-2.ensures.value ∙ c.in-Ok.ensures in
     let columns = ap (map named) c.deref-3.ensures.value ∙ c.in-Ok-columns_by_name.ensures ∙ ap columns_by_name (ap (map string_bytes) c.deref.ensures.value ∙ c.in-Ok.ensures) in
     let text = ap (λ (names : List (List ℕ)). concat (json_pieces names (map named c.deref-3.result.now) rows)) names
-        ∙ ap (λ (columns : List (List ℕ × ℕ)). concat (json_pieces (column_names query) columns rows)) columns
-        ∙ json_pieces-are query rows in
+    ∙ ap (λ (columns : List (List ℕ × ℕ)). concat (json_pieces (column_names query) columns rows)) columns
+    ∙ json_pieces-are query rows in
     subst (λ text. Step (g.W.World.told c.args.world.now) (g.W.World.told c.print_pieces.new.world) (Prints text c.print_pieces.result)) text c.print_pieces.ensures.step
