@@ -1,15 +1,14 @@
 -- The order of columns is total, and only equal columns tie; columns are numbered one by one.
-use Rattle.std.proofs.Common.{◌≡◌, ℕ, ◌+◌, ◌<◌, ◌≤◌, Bool, false, List, [], ◌∷◌, ◌++◌, map, length, take, drop, suc, add-one, drop-cons, get_or, IsPermutation, IsSorted, refl, sym, ◌∙◌, ap, subst, arith}
+use Rattle.std.proofs.Common.{◌≡◌, ℕ, ◌+◌, ◌<◌, List, [], ◌∷◌, ◌++◌, map, length, take, drop, suc, add-one, drop-cons, get_or, IsPermutation, IsSorted, refl, sym, ◌∙◌, ap, subst, arith}
 use Rattle.std.proofs.lemmas.List.{get_or-map, length-map, take_more, map-append, length-take}
 use Rattle.std.proofs.lemmas.List.Sorted.{IsPermutation-map}
 use Rattle.std.proofs.lemmas.Map.Lookups.{CmpEqualImpliesEq, exact_bytes}
 use Rattle.std.specs.Cmp.{IsTotalOrder, then_total, on_total, nat_cmp_total}
 use Rattle.std.specs.Cmp.Lexicographic.{lists_total}
 use Rattle.std.specs.List.{enumerate_from}
-use Rattle.std.specs.Ordering.{ordering_then, is_lt}
+use Rattle.std.specs.Ordering.{ordering_then}
 use Rattle.std.specs.declared.cmp.Ordering.{Ordering}
 use Rattle.std.specs.declared.cmp.Ordering.TheVariants.{Less, Equal, Greater}
-use Rattle.alg_model.specs.Answers.{in_order}
 use Rattle.alg_model.proofs.InOrder.{in_order-is}
 use Rattle.result_write.specs.JsonResult.{column_cmp, columns_of, columns_by_name}
 

@@ -1,7 +1,6 @@
 -- JSON of characters, and of their bytes: what is escaped is ASCII, so encoding goes through.
-use Rattle.std.proofs.Common.{◌≡◌, ℕ, ◌+◌, ◌/◌, ◌%◌, ◌<◌, ◌≤◌, Bool, true, false, ◌==◌, if◌then◌else◌, nat_lt, nat_le, List, [], ◌∷◌, ◌++◌, map, Option, Some, None, ⊎_elim, refl, sym, ◌∙◌, ap, arith, append_assoc, append-nil}
+use Rattle.std.proofs.Common.{◌≡◌, ℕ, ◌<◌, ◌≤◌, true, nat_lt, nat_le, List, [], ◌∷◌, ◌++◌, map, ⊎_elim, refl, sym, ◌∙◌, ap, arith, append-nil}
 use Rattle.std.proofs.lemmas.Bool.Decides.{nat_tests}
-use Rattle.std.specs.Cmp.Derive.{both_true}
 use Rattle.std.specs.List.{flat_map, join_with_byte, list_all}
 use Rattle.std.proofs.lemmas.List.Concat.{flat_map-append}
 use Rattle.std.specs.Str.{encode_utf8_all}
@@ -10,9 +9,9 @@ use Rattle.std.proofs.lemmas.Bool.{and_parts, cases_lt}
 use lib.Utf8.{encode}
 use Rattle.rdf_text.proofs.TextLemmas.{IsAscii-list_all}
 use Rattle.rdf_text.proofs.Unescaping.{encode_is_high}
-use Rattle.serde_json.specs.Data.{Members, member, object, string}
+use Rattle.serde_json.specs.Data.{object}
 use Rattle.serde_json.specs.Written.{compact_text}
-use Rattle.result_write.specs.Json.{comma, short_escape, json_spelled_by, json_spelling, json_string, Member, member_text, json_object}
+use Rattle.result_write.specs.Json.{comma, short_escape, json_spelling, json_string, Member, member_text, json_object}
 use Rattle.result_write.specs.JsonResult.{string_member}
 use Rattle.result_write.specs.held.Written.{strings_data, member_texts}
 use Rattle.result_write.proofs.JsonLaws.{quoted-string, compact-object}

@@ -1,5 +1,5 @@
 -- Lists that are joined item by item.
-use Rattle.std.proofs.Common.{◌≡◌, ℕ, ◌+◌, ◌≤◌, ◌++◌, ◌==◌, false, if◌then◌else◌, List, [], ◌∷◌, length, take, map, get_or, slice_get, Option, Some, None, drop, refl, arith, append_assoc, sym, ◌∙◌, ap}
+use Rattle.std.proofs.Common.{◌≡◌, ℕ, ◌+◌, ◌≤◌, ◌++◌, ◌==◌, false, if◌then◌else◌, List, [], ◌∷◌, length, take, map, get_or, slice_get, Some, refl, arith, append_assoc, sym, ◌∙◌, ap}
 use Rattle.std.proofs.lemmas.List.{take_all, take_more, map-append, length-map, length-take}
 use Rattle.std.proofs.lemmas.Grind.{common_steps}
 use Rattle.std.specs.List.{join_with_byte}

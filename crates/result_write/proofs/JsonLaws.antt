@@ -1,12 +1,12 @@
 -- What the writer of JSON writes is JSON by the definitions.
-use Rattle.std.proofs.Common.{◌≡◌, ℕ, Bool, true, false, ◌==◌, if◌then◌else◌, cond, nat_lt, ◌<◌, ◌≤◌, List, [], ◌∷◌, ◌++◌, map, Some, None, refl, sym, ◌∙◌, ap, arith, append_assoc}
+use Rattle.std.proofs.Common.{◌≡◌, ℕ, true, false, ◌==◌, List, [], ◌∷◌, ◌++◌, map, refl, sym, ◌∙◌, ap, append_assoc}
 use Rattle.std.proofs.lemmas.Bool.{eqb-true}
 use Rattle.std.specs.List.{flat_map, join_with_byte}
 use Rattle.json.specs.Print.{escape_byte, escape, quoted}
-use Rattle.serde_json.specs.Data.{Data, string, object, array, Items, no_items, item, Members, no_members, member}
-use Rattle.serde_json.specs.Written.{compact_text, items_text, members_text, has_float, members_have_float}
-use Rattle.result_write.specs.Json.{comma, short_escape, json_spelling, json_string, Member, member_text, json_object, json_array}
-use Rattle.result_write.specs.held.Written.{strings_data, item_texts, member_texts}
+use Rattle.serde_json.specs.Data.{object, array, Items, no_items, item, Members, no_members, member}
+use Rattle.serde_json.specs.Written.{compact_text, items_text, members_text}
+use Rattle.result_write.specs.Json.{comma, short_escape, json_spelling, json_string, member_text, json_object, json_array}
+use Rattle.result_write.specs.held.Written.{item_texts, member_texts}
 
 -- a byte is escaped as the definition spells it
 escape_byte-spelling : (c : ℕ) → escape_byte c ≡ json_spelling c

@@ -1,15 +1,15 @@
 -- The pieces of a text joined are the text, and what stands at each place.
-use Rattle.std.proofs.Common.{◌≡◌, ℕ, zero, suc, ◌+◌, ◌-◌, ◌<◌, ◌≤◌, Bool, true, false, if◌then◌else◌, nat_lt, List, [], ◌∷◌, ◌++◌, codes, map, length, slice_index_or, get_or, Some, slice_get, refl, sym, ◌∙◌, ap, arith, append_assoc}
+use Rattle.std.proofs.Common.{◌≡◌, ℕ, zero, suc, ◌+◌, Bool, true, false, nat_lt, List, [], ◌∷◌, ◌++◌, codes, map, length, slice_index_or, Some, slice_get, refl, sym, ◌∙◌, ap, arith, append_assoc}
 use Rattle.std.proofs.lemmas.Bool.Decides.{nat_tests}
 use Rattle.std.specs.List.{concat, flat_map, join_with_byte}
-use Rattle.std.proofs.lemmas.List.{append-nil, get_or-map, length-map}
+use Rattle.std.proofs.lemmas.List.{append-nil, length-map}
 use Rattle.alg_model.specs.declared.var.Var.{Var}
 use Rattle.alg_model.specs.Query.{AbstractQuery}
 use Rattle.alg_model.specs.Row.{Row}
 use Rattle.result_write.specs.Columns.{name_of, column_names}
 use Rattle.result_write.specs.Tsv.{question_mark, marked_name, tsv_line, tsv_header, tsv_row, tsv_text}
-use Rattle.result_write.specs.Json.{comma, short_escape, json_string, json_array, json_object, member_text}
-use Rattle.result_write.specs.JsonResult.{columns_by_name, row_json, head_json, results_json, document_json, json_text}
+use Rattle.result_write.specs.Json.{comma, short_escape, json_string, json_array, json_object}
+use Rattle.result_write.specs.JsonResult.{columns_by_name, row_json, json_text}
 use Rattle.result_write.specs.held.TextPieces.{header_line, tsv_pieces, json_start, json_end, row_object, row_piece, row_pieces, json_pieces}
 
 -- lines joined

@@ -1,15 +1,15 @@
 -- What is sent of a row is written as its object.
-use Rattle.std.proofs.Common.{◌≡◌, ℕ, suc, ◌+◌, Bool, true, false, List, [], ◌∷◌, ◌++◌, map, Option, None, Some, is_some, if◌then◌else◌, length, slice_index_or, refl, sym, ◌∙◌, ap, subst, arith}
+use Rattle.std.proofs.Common.{◌≡◌, ℕ, suc, ◌+◌, false, List, [], ◌∷◌, map, Option, None, Some, is_some, if◌then◌else◌, length, slice_index_or, refl, sym, ◌∙◌, ap, subst, arith}
 use Rattle.std.specs.List.{filter_map, count_by}
 use Rattle.std.specs.Option.{option_map}
 use Rattle.std.proofs.lemmas.List.Sums.{sum_by-cons}
 use Rattle.serde.specs.Event.{Log}
-use Rattle.serde_json.specs.Data.{Data, array, object, Members, no_members, member}
+use Rattle.serde_json.specs.Data.{array, Members}
 use Rattle.serde_json.specs.Events.{SendsMembers, members_len, items_len}
 use Rattle.serde_json.specs.Written.{compact_text, has_float, members_have_float}
 use Rattle.alg_model.specs.Row.{Row}
 use Rattle.bm_term.specs.Canonical.{iri, blank, plain, tagged, typed, RdfTerm}
-use Rattle.result_write.specs.Json.{Member, json_string, json_object, json_array}
+use Rattle.result_write.specs.Json.{json_string, json_object, json_array}
 use Rattle.result_write.specs.TermText.{term_with_text}
 use Rattle.result_write.specs.JsonResult.{bound_member, cell_json}
 use Rattle.result_write.specs.held.Written.{item_texts, member_texts, term_data, cell_data, names_data}

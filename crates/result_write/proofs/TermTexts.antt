@@ -1,12 +1,10 @@
 -- The text of a term is read as that term, and what is written for its parts is its object.
-use Rattle.std.proofs.Common.{◌≡◌, ℕ, Bool, true, false, ◌==◌, ◌&&◌, ◌||◌, not, if◌then◌else◌, IsTrue, List, [], ◌∷◌, ◌++◌, map, Some, None, inl, inr, ⊎_elim, refl, sym, ◌∙◌, ap, subst, arith}
-use Rattle.std.proofs.lemmas.Bool.{and_parts, or_cases, eqb-true}
+use Rattle.std.proofs.Common.{◌≡◌, ℕ, Bool, true, false, ◌==◌, ◌&&◌, ◌||◌, not, List, [], ◌∷◌, ◌++◌, refl, sym, ◌∙◌, ap, arith}
+use Rattle.std.proofs.lemmas.Bool.{and_parts, eqb-true}
 use Rattle.std.proofs.lemmas.Bool.Decides.{nat_tests}
-use Rattle.std.specs.Cmp.Derive.{both_true}
 use Rattle.std.specs.List.{list_all, list_any}
-use Rattle.std.specs.Str.{chars, encode_utf8_all}
+use Rattle.std.specs.Str.{encode_utf8_all}
 use Rattle.std.proofs.lemmas.Str.{chars-encodes}
-use Rattle.serde_json.specs.Data.{object}
 use Rattle.serde_json.specs.Written.{compact_text}
 use Rattle.rdf_text.specs.Marks.{quotation_mark, greater_than}
 use Rattle.rdf_text.specs.Classes.{is_irichar, is_scalar, is_lower_letter, is_lower_alphanumeric, is_digit}
@@ -18,12 +16,12 @@ use Rattle.bm_term.specs.declared.term_parts.TermKind.{TermKind}
 use Rattle.bm_term.specs.declared.term_parts.TermKind.TheVariants.{Iri, Blank, Plain, Tagged, Typed}
 use Rattle.bm_term.specs.declared.term_parts.Parts.{Parts}
 use Rattle.bm_term.specs.Parts.{IsBodyOf, Shows, ArePartsOf}
-use Rattle.bm_term.specs.Canonical.{RdfTerm, iri, blank, plain, tagged, typed, IsTerm, kind_of, body_of, tail_of, canonical_chars, canonical_text}
+use Rattle.bm_term.specs.Canonical.{RdfTerm, iri, blank, plain, tagged, typed, IsTerm, kind_of, body_of, canonical_chars, canonical_text}
 use Rattle.bm_term.proofs.TermScalars.{canonical_scalars}
-use Rattle.result_write.specs.TermText.{cut_at_last, in_brackets, literal_with, term_of_chars, term_with_text}
-use Rattle.result_write.specs.JsonResult.{term_members, string_member, term_json, cell_json}
+use Rattle.result_write.specs.TermText.{cut_at_last, literal_with, term_of_chars, term_with_text}
+use Rattle.result_write.specs.JsonResult.{term_members, term_json, cell_json}
 use Rattle.result_write.specs.held.Written.{is_literal, kind_data, value_of, term_data, cell_data}
-use Rattle.result_write.proofs.Encodings.{encoded, strings-written}
+use Rattle.result_write.proofs.Encodings.{strings-written}
 
 -- a mark that is in a text
 mark_within : (mark : ℕ) (xs ys : List ℕ) → list_any (λ c. c == mark) (xs ++ mark ∷ ys) ≡ true

@@ -1,5 +1,5 @@
 -- Carries proofs only: the data that are sent to the writer of JSON, and their texts.
-use Rattle.std.specs.Prelude.{ℕ, Bool, true, false, List, [], ◌∷◌, ◌++◌, codes}
+use Rattle.std.specs.Prelude.{ℕ, Bool, true, false, List, [], ◌∷◌, codes}
 use Rattle.std.specs.Str.{encode_utf8_all}
 use Rattle.serde.specs.Event as event
 use Rattle.serde.specs.Event.{Log, Logs, field_key}

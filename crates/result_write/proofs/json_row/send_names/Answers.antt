@@ -1,4 +1,4 @@
-use Rattle.std.proofs.Common.{◌≡◌, ◌+◌, ℕ, List, [], Some, map, drop, length, string_bytes, sym, ◌∙◌, subst}
+use Rattle.std.proofs.Common.{◌≡◌, [], Some, map, drop, length, string_bytes, sym, ◌∙◌, subst}
 use Rattle.std.proofs.lemmas.List.{drop_all, length-map}
 use Rattle.std.proofs.lemmas.Result.{on_ok_weaker}
 use Rattle.serde.specs.Event.{Logs, seq_begins, text}

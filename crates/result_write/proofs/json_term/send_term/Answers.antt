@@ -1,7 +1,7 @@
 use Rattle.std.proofs.Common.{◌≡◌, true, false, OnOk, sym, ◌∙◌, subst}
 use Rattle.serde_json.specs.Events.{SendsValue}
 use Rattle.bm_term.specs.TermRef.{text_of}
-use Rattle.result_write.specs.held.Written.{is_literal, kind_data, cell_data}
+use Rattle.result_write.specs.held.Written.{is_literal}
 use Rattle.result_write.proofs.TermTexts.{other_data, literal_data}
 use Rattle.result_write.proofs.json_term.send_term.Goals as goal
 

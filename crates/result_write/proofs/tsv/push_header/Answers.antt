@@ -1,4 +1,4 @@
-use Rattle.std.proofs.Common.{◌++◌, ◌∷◌, [], ◌==◌, if◌then◌else◌, ◌∙◌, sym, ap, refl, map, List, ℕ, string_bytes}
+use Rattle.std.proofs.Common.{◌++◌, ◌∷◌, [], ◌==◌, if◌then◌else◌, ◌∙◌, sym, ap, refl, List, ℕ, string_bytes}
 use Rattle.std.specs.List.{join_with_byte}
 use Rattle.std.proofs.lemmas.Option.{slice_get_read}
 use Rattle.result_write.specs.Tsv.{question_mark}
