@@ -44,8 +44,10 @@ place_of_sorted (y ∷ l) (suc k) x sorted at =
     below [] j all at = absurd (cc)
     below (z ∷ zs) zero all at = subst (λ z. text_cmp y z ≡ Less) (same_some z x at) all.0
     below (z ∷ zs) (suc j) all at = below zs j all.1 at
+
     clash : text_cmp y y ≡ Less → text_cmp y y ≡ Equal → ⊥
     clash less tie = cc
+
     other : (b : Bool) → bytes_eq x y ≡ b → text_cmp y x ≡ Less → bytes_eq x y ≡ false
     other false e less = e
     other true e less = let tie = tied_itself text_cmp-total y in let same : x ≡ y = same_text x y (sym e) in absurd (clash (subst (λ z. text_cmp y z ≡ Less) same less) tie)
@@ -75,6 +77,7 @@ at_place (y ∷ l) x there = by (bytes_eq x y) refl (λ rest. at_place l x rest)
   where
     one_more : (k : ℕ) → 1 + k ≡ suc k
     one_more k = omega arith
+
     by : (b : Bool) → bytes_eq x y ≡ b → (is_among l x ≡ true → slice_get l (place_of l x) ≡ Some x) → (b || is_among l x) ≡ true → slice_get (y ∷ l) (cond (not b) (1 + place_of l x) 0) ≡ Some x
     by true e later there = ap Some (sym (same_text x y (sym e)))
     by false e later there = subst (λ k. slice_get (y ∷ l) k ≡ Some x) (sym (one_more (place_of l x))) (later there)
@@ -83,7 +86,7 @@ at_place (y ∷ l) x there = by (bytes_eq x y) refl (λ rest. at_place l x rest)
 
 -- the number of a text of a group
 group_number : (texts : List (List ℕ)) (test : ℕ → Bool) (es : List Entry) (first place : ℕ) (x : List ℕ) (old new : List ℕ) → IsGroup texts test es → AreNumbered es (length es) first old new
-  → slice_get texts place ≡ Some x → test place ≡ true → slice_get new place ≡ Some (first + place_of (texts_in es) x)
+    → slice_get texts place ≡ Some x → test place ≡ true → slice_get new place ≡ Some (first + place_of (texts_in es) x)
 group_number texts test es first place x old new group have here passed =
     let e : Entry = record { text = x; place = place } in
     let there = group.all place x here passed in
@@ -100,8 +103,8 @@ group_number texts test es first place x old new group have here passed =
 group_others : (texts : List (List ℕ)) (test : ℕ → Bool) (es : List Entry) (first place : ℕ) (old new : List ℕ) → IsGroup texts test es → AreNumbered es (length es) first old new → test place ≡ false → slice_get new place ≡ slice_get old place
 group_others texts test es first place old new group have failed =
     have.others place (λ k d low same.
-      let held = (group.only (get_or es k d) (Contains-get_or es k d low)).1 in
-      true≢false (sym held ∙ ap test same ∙ failed))
+    let held = (group.only (get_or es k d) (Contains-get_or es k d low)).1 in
+    true≢false (sym held ∙ ap test same ∙ failed))
 
 -- a text is not in a group whose test fails at its place
 not_in_group : (texts : List (List ℕ)) (test : ℕ → Bool) (es : List Entry) (place : ℕ) (x : List ℕ) → IsDistinct bytes_eq texts → IsGroup texts test es → slice_get texts place ≡ Some x → test place ≡ false → is_among (texts_in es) x ≡ false
@@ -135,6 +138,7 @@ module _ (n : List (List ℕ)) (ps : List Numbered) (s b o : List Entry) (number
       by true true h = (refl, refl)
       by true false h = absurd (true≢false (sym h))
       by false c h = absurd (true≢false (sym h))
+
       exclusive : (r : Role) → is_shared r ≡ true → (is_subject_alone r ≡ false) × (is_object_alone r ≡ false)
       exclusive r h = by r.subject r.object h
 
@@ -221,12 +225,12 @@ terms_of-graph ts =
 
 -- what was seen, grouped and numbered is the numbering of the graph
 pub numbering_is : (n p : List (List ℕ)) (ps : List Numbered) (ts : List Triple) (s b o e : List Entry) (ids : List Numbered) → Held n p ps ts s b o e → AreByNumber s b o e ps ids
-  → record { terms = terms_held s b o e; triples = ids } ≡ numbering_of (graph_of ts)
+    → record { terms = terms_held s b o e; triples = ids } ≡ numbering_of (graph_of ts)
 numbering_is n p ps ts s b o e ids h made =
     let terms : terms_held s b o e ≡ terms_of (graph_of ts) = terms_are n p ps ts s b o e h ∙ terms_of-graph ts in
     let numbers : ids ≡ set_of number_cmp (map (numbers_in (terms_held s b o e)) ts) = made.triples_are ∙ ap (set_of number_cmp) (all_numbers n p ps ts s b o e h ids made ps ts h.seen.seen (λ t there. there)) in
     let of_graph : set_of number_cmp (map (numbers_in (terms_held s b o e)) ts) ≡ set_of number_cmp (map (numbers_in (terms_held s b o e)) (graph_of ts)) =
-      set_of-same number_cmp number_cmp-total number_cmp-exact (map (numbers_in (terms_held s b o e)) ts) (map (numbers_in (terms_held s b o e)) (graph_of ts)) (map-same (numbers_in (terms_held s b o e)) ts (graph_of ts) (graph_members ts)) in
+    set_of-same number_cmp number_cmp-total number_cmp-exact (map (numbers_in (terms_held s b o e)) ts) (map (numbers_in (terms_held s b o e)) (graph_of ts)) (map-same (numbers_in (terms_held s b o e)) ts (graph_of ts) (graph_members ts)) in
     let triples : ids ≡ set_of number_cmp (map (numbers_in (terms_of (graph_of ts))) (graph_of ts)) = numbers ∙ of_graph ∙ ap (λ w. set_of number_cmp (map (numbers_in w) (graph_of ts))) terms in
     λ i. record { terms = terms i; triples = triples i }
 
@@ -297,10 +301,10 @@ as_many g sorted =
       same = λ t. (
         λ there. subst (Contains (map h numbers)) (named-numbers g t there) (Contains-map h numbers (f t) ((is.same (f t)).1 (Contains-map f g t there))),
         λ there.
-          let n = from_map h numbers t there in
-          let u = from_map f g n.0 ((is.same n.0).0 n.1) in
-          let one : u.0 ≡ t = sym (named-numbers g u.0 u.1) ∙ ap h u.2 ∙ n.2 in
-          subst (Contains g) one u.1,
+            let n = from_map h numbers t there in
+            let u = from_map f g n.0 ((is.same n.0).0 n.1) in
+            let one : u.0 ≡ t = sym (named-numbers g u.0 u.1) ∙ ap h u.2 ∙ n.2 in
+            subst (Contains g) one u.1,
       );
     } in
     let again : g ≡ set_of triple_cmp (map h numbers) = one_set triple_cmp triple_cmp-total triple_cmp-exact (map h numbers) g back in

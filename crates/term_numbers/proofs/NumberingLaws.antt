@@ -50,9 +50,9 @@ module _ {X Y : Type 0} (f : X → Y) where
   -- lists with the same items have the same items when they are mapped
   pub map-same : (xs ys : List X) → ((x : X) → Contains xs x ↔ Contains ys x) → (y : Y) → Contains (map f xs) y ↔ Contains (map f ys) y
   map-same xs ys same y = (
-      λ there. let e = from_map xs y there in subst (Contains (map f ys)) e.2 (Contains-map ys e.0 ((same e.0).0 e.1)),
-      λ there. let e = from_map ys y there in subst (Contains (map f xs)) e.2 (Contains-map xs e.0 ((same e.0).1 e.1)),
-    )
+    λ there. let e = from_map xs y there in subst (Contains (map f ys)) e.2 (Contains-map ys e.0 ((same e.0).0 e.1)),
+    λ there. let e = from_map ys y there in subst (Contains (map f xs)) e.2 (Contains-map xs e.0 ((same e.0).1 e.1)),
+  )
 
 -- ---- whether a text is among texts
 
@@ -93,20 +93,20 @@ AreAt f g texts (p ∷ ps) (t ∷ ts) = (slice_get texts (f p) ≡ Some (g t)) �
 
 -- a part of a triple is at a place of one
 at_from_part : (f : Numbered → ℕ) (g : Triple → List ℕ) (texts : List (List ℕ)) (ps : List Numbered) (ts : List Triple) (x : List ℕ) → AreAt f g texts ps ts → Contains (map g ts) x
-  → (place : ℕ) × (slice_get texts place ≡ Some x) × (list_any (λ q. eqb (f q) place) ps ≡ true)
+    → (place : ℕ) × (slice_get texts place ≡ Some x) × (list_any (λ q. eqb (f q) place) ps ≡ true)
 at_from_part f g texts [] [] x at there = absurd (Contains-nil x there)
 at_from_part f g texts [] (t ∷ ts) x at there = absurd at
 at_from_part f g texts (p ∷ ps) [] x at there = absurd at
 at_from_part f g texts (p ∷ ps) (t ∷ ts) x at there = by (λ rest. at_from_part f g texts ps ts x at.1 rest) (Contains-cons_cases (g t) (map g ts) x there)
   where
     by : (Contains (map g ts) x → (place : ℕ) × (slice_get texts place ≡ Some x) × (list_any (λ q. eqb (f q) place) ps ≡ true)) → (g t ≡ x) ⊎ Contains (map g ts) x
-      → (place : ℕ) × (slice_get texts place ≡ Some x) × (list_any (λ q. eqb (f q) place) (p ∷ ps) ≡ true)
+        → (place : ℕ) × (slice_get texts place ≡ Some x) × (list_any (λ q. eqb (f q) place) (p ∷ ps) ≡ true)
     by later (inl same) = (f p, at.0 ∙ ap Some same, ap (λ b. b || list_any (λ q. eqb (f q) (f p)) ps) (eq-eqb (f p) (f p) refl))
     by later (inr rest) = let found = later rest in (found.0, found.1, ap (λ b. eqb (f p) found.0 || b) found.2 ∙ or-true (eqb (f p) found.0))
 
 -- and a text at a place of a triple is its part
 part_from_at : (f : Numbered → ℕ) (g : Triple → List ℕ) (texts : List (List ℕ)) (ps : List Numbered) (ts : List Triple) (x : List ℕ) (place : ℕ) → AreAt f g texts ps ts → slice_get texts place ≡ Some x
-  → list_any (λ q. eqb (f q) place) ps ≡ true → Contains (map g ts) x
+    → list_any (λ q. eqb (f q) place) ps ≡ true → Contains (map g ts) x
 part_from_at f g texts [] [] x place at here any = absurd (true≢false (sym any))
 part_from_at f g texts [] (t ∷ ts) x place at here any = absurd at
 part_from_at f g texts (p ∷ ps) [] x place at here any = absurd at
@@ -167,18 +167,18 @@ one_place (y ∷ ys) (suc i) (suc j) x differ at_i at_j = ap suc (one_place ys i
 
 -- a group whose test is a test of texts has just the texts that pass
 same_group : (texts : List (List ℕ)) (test : ℕ → Bool) (es : List Entry) (q : List ℕ → Bool) (l : List (List ℕ)) → IsGroup texts test es → ((place : ℕ) (x : List ℕ) → slice_get texts place ≡ Some x → test place ≡ q x)
-  → ((x : List ℕ) → q x ≡ true → (place : ℕ) × (slice_get texts place ≡ Some x)) → IsStrictlySortedBy text_cmp l → ((x : List ℕ) → Contains l x ↔ (q x ≡ true)) → texts_in es ≡ l
+    → ((x : List ℕ) → q x ≡ true → (place : ℕ) × (slice_get texts place ≡ Some x)) → IsStrictlySortedBy text_cmp l → ((x : List ℕ) → Contains l x ↔ (q x ≡ true)) → texts_in es ≡ l
 same_group texts test es q l group tests place_for sorted members =
     same_members text_cmp text_cmp-total text_cmp-exact (texts_in es) l group.ascends sorted (λ x. (
       λ there.
-        let e = from_map (λ (e : Entry). e.text) es x there in
-        let held = group.only e.0 e.1 in
-        let here : slice_get texts e.0.place ≡ Some x = held.0 ∙ ap Some e.2 in
-        (members x).1 (sym (tests e.0.place x here) ∙ held.1),
+          let e = from_map (λ (e : Entry). e.text) es x there in
+          let held = group.only e.0 e.1 in
+          let here : slice_get texts e.0.place ≡ Some x = held.0 ∙ ap Some e.2 in
+          (members x).1 (sym (tests e.0.place x here) ∙ held.1),
       λ there.
-        let passed = (members x).0 there in
-        let found = place_for x passed in
-        Contains-map (λ (e : Entry). e.text) es (record { text = x; place = found.0 }) (group.all found.0 x found.1 (tests found.0 x found.1 ∙ passed))
+          let passed = (members x).0 there in
+          let found = place_for x passed in
+          Contains-map (λ (e : Entry). e.text) es (record { text = x; place = found.0 }) (group.all found.0 x found.1 (tests found.0 x found.1 ∙ passed)),
     ))
 
 same_bool : (a b : Bool) → (a ≡ true → b ≡ true) → (b ≡ true → a ≡ true) → a ≡ b
@@ -210,10 +210,10 @@ module _ (g : Triple → List ℕ) (ts : List Triple) where
 
   -- the mark of a place is whether its text is such a part
   mark_at : (f : Numbered → ℕ) (texts : List (List ℕ)) (ps : List Numbered) (place : ℕ) (x : List ℕ) → IsDistinct bytes_eq texts → AreAt f g texts ps ts → slice_get texts place ≡ Some x
-    → list_any (λ q. eqb (f q) place) ps ≡ is_among part_set x
+      → list_any (λ q. eqb (f q) place) ps ≡ is_among part_set x
   mark_at f texts ps place x differ at here = same_bool (list_any (λ q. eqb (f q) place) ps) (is_among part_set x)
-    (λ any. part_in x (part_from_at f g texts ps ts x place at here any))
-    (λ h.
+      (λ any. part_in x (part_from_at f g texts ps ts x place at here any))
+      (λ h.
       let found = at_from_part f g texts ps ts x at (in_part x h) in
       let one = one_place texts found.0 place x differ found.1 here in
       subst (λ n. list_any (λ q. eqb (f q) n) ps ≡ true) one found.2)
@@ -225,9 +225,9 @@ module _ (g : Triple → List ℕ) (ts : List Triple) where
 -- which texts a filtered set has
 filtered : (l : List (List ℕ)) (p : List ℕ → Bool) (x : List ℕ) → Contains (filter p l) x ↔ ((is_among l x && p x) ≡ true)
 filtered l p x = (
-    λ there. let found = Contains-filter p l x there in true_both (is_among l x) (p x) (among l x found.0) found.1,
-    λ h. let both = both_true (is_among l x) (p x) h in filter-Contains p l x (among_from l x both.0) both.1,
-  )
+  λ there. let found = Contains-filter p l x there in true_both (is_among l x) (p x) (among l x found.0) found.1,
+  λ h. let both = both_true (is_among l x) (p x) h in filter-Contains p l x (among_from l x both.0) both.1,
+)
 
 and_flips : (a b : Bool) → (a && b) ≡ (b && a)
 and_flips true true = refl
@@ -268,31 +268,31 @@ module _ (n p : List (List ℕ)) (ps : List Numbered) (ts : List Triple) (s b o 
 
   shared_is : texts_in s ≡ (terms_of ts).shared
   shared_is = same_group n (λ place. is_shared (role_of ps place)) s (λ x. is_subject x && is_object x) (filter (λ x. is_object x) (subject_texts ts)) h.groups.shared_are
-    (λ place x here. ap is_shared (role_at place x here))
-    (λ x is. subject_place x (both_true (is_subject x) (is_object x) is).0)
-    (IsStrictlySortedBy-filter text_cmp (λ x. is_object x) (subject_texts ts) (part_sorted (λ (t : Triple). t.subject) ts))
-    (λ x. filtered (subject_texts ts) (λ x. is_object x) x)
+      (λ place x here. ap is_shared (role_at place x here))
+      (λ x is. subject_place x (both_true (is_subject x) (is_object x) is).0)
+      (IsStrictlySortedBy-filter text_cmp (λ x. is_object x) (subject_texts ts) (part_sorted (λ (t : Triple). t.subject) ts))
+      (λ x. filtered (subject_texts ts) (λ x. is_object x) x)
 
   subjects_are : texts_in b ≡ (terms_of ts).subjects
   subjects_are = same_group n (λ place. is_subject_alone (role_of ps place)) b (λ x. is_subject x && not (is_object x)) (filter (λ x. not (is_object x)) (subject_texts ts)) h.groups.subjects_are
-    (λ place x here. ap is_subject_alone (role_at place x here))
-    (λ x is. subject_place x (both_true (is_subject x) (not (is_object x)) is).0)
-    (IsStrictlySortedBy-filter text_cmp (λ x. not (is_object x)) (subject_texts ts) (part_sorted (λ (t : Triple). t.subject) ts))
-    (λ x. filtered (subject_texts ts) (λ x. not (is_object x)) x)
+      (λ place x here. ap is_subject_alone (role_at place x here))
+      (λ x is. subject_place x (both_true (is_subject x) (not (is_object x)) is).0)
+      (IsStrictlySortedBy-filter text_cmp (λ x. not (is_object x)) (subject_texts ts) (part_sorted (λ (t : Triple). t.subject) ts))
+      (λ x. filtered (subject_texts ts) (λ x. not (is_object x)) x)
 
   objects_are : texts_in o ≡ (terms_of ts).objects
   objects_are = same_group n (λ place. is_object_alone (role_of ps place)) o (λ x. is_object x && not (is_subject x)) (filter (λ x. not (is_subject x)) (object_texts ts)) h.groups.objects_are
-    (λ place x here. ap is_object_alone (role_at place x here) ∙ and_flips (not (is_subject x)) (is_object x))
-    (λ x is. object_place x (both_true (is_object x) (not (is_subject x)) is).0)
-    (IsStrictlySortedBy-filter text_cmp (λ x. not (is_subject x)) (object_texts ts) (part_sorted (λ (t : Triple). t.object) ts))
-    (λ x. filtered (object_texts ts) (λ x. not (is_subject x)) x)
+      (λ place x here. ap is_object_alone (role_at place x here) ∙ and_flips (not (is_subject x)) (is_object x))
+      (λ x is. object_place x (both_true (is_object x) (not (is_subject x)) is).0)
+      (IsStrictlySortedBy-filter text_cmp (λ x. not (is_subject x)) (object_texts ts) (part_sorted (λ (t : Triple). t.object) ts))
+      (λ x. filtered (object_texts ts) (λ x. not (is_subject x)) x)
 
   predicates_are : texts_in e ≡ (terms_of ts).predicates
   predicates_are = same_group p anywhere e (λ x. is_among (predicate_texts ts) x) (predicate_texts ts) h.predicates
-    (λ place x here. sym (part_in (λ (t : Triple). t.predicate) ts x (h.seen.only x (at_Contains p place x here))))
-    (λ x is. place_of_part (λ (t : Triple). t.predicate) ts (λ (q : Numbered). q.1) p ps x (predicates_at n p ps ts h.seen.seen) is)
-    (part_sorted (λ (t : Triple). t.predicate) ts)
-    (λ x. ((λ there. among (predicate_texts ts) x there), (λ is. among_from (predicate_texts ts) x is)))
+      (λ place x here. sym (part_in (λ (t : Triple). t.predicate) ts x (h.seen.only x (at_Contains p place x here))))
+      (λ x is. place_of_part (λ (t : Triple). t.predicate) ts (λ (q : Numbered). q.1) p ps x (predicates_at n p ps ts h.seen.seen) is)
+      (part_sorted (λ (t : Triple). t.predicate) ts)
+      (λ x. ((λ there. among (predicate_texts ts) x there), (λ is. among_from (predicate_texts ts) x is)))
 
   -- the groups are the terms of the triples
   pub terms_are : terms_held s b o e ≡ terms_of ts

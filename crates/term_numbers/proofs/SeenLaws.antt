@@ -20,14 +20,15 @@ slice_get-append (y ∷ xs) more (suc i) x h = slice_get-append xs more i x h
 -- a text that is put into a set has a place there
 pub IsPlaced-insert : (old new : List (List ℕ)) (text : List ℕ) (place : ℕ) → new ≡ insert_key bytes_eq old text → (k : List ℕ) × (slice_get new place ≡ Some k) × (bytes_eq text k ≡ true) → IsPlaced old new text place
 IsPlaced-insert old new text place is stored = record {
-    at = stored.1 ∙ ap Some (sym (same_text text stored.0 (sym stored.2)));
-    grows = grown (list_any (bytes_eq text) old) is;
-    only = λ x. only_it (list_any (bytes_eq text) old) x is;
-  }
+  at = stored.1 ∙ ap Some (sym (same_text text stored.0 (sym stored.2)));
+  grows = grown (list_any (bytes_eq text) old) is;
+  only = λ x. only_it (list_any (bytes_eq text) old) x is;
+}
   where
     grown : (b : Bool) → new ≡ (if b then old else old ++ text ∷ []) → (more : List (List ℕ)) × (new ≡ old ++ more)
     grown true e = ([], e ∙ sym (append-nil old))
     grown false e = (text ∷ [], e)
+
     only_it : (b : Bool) (x : List ℕ) → new ≡ (if b then old else old ++ text ∷ []) → Contains new x → Contains old x ⊎ (x ≡ text)
     only_it true x e there = inl (subst (λ l. Contains l x) e there)
     only_it false x e there = elim (Contains-push_cases old text x (subst (λ l. Contains l x) e there)) as (λ _. Contains old x ⊎ (x ≡ text)) [ inl before ↦ inl before | inr same ↦ inr (sym same) ]
@@ -42,7 +43,7 @@ IsPlaced-found old text found place at same = record {
 
 -- the three terms of a triple have places
 pub SeesTriple-placed : (n n' n'' p p' : List (List ℕ)) (x y z : List ℕ) (i j k : ℕ) (t : Triple) → x ≡ t.subject → y ≡ t.predicate → z ≡ t.object
-  → IsPlaced n n' x i → IsPlaced p p' y j → IsPlaced n' n'' z k → SeesTriple n n'' p p' (i, j, k) t
+    → IsPlaced n n' x i → IsPlaced p p' y j → IsPlaced n' n'' z k → SeesTriple n n'' p p' (i, j, k) t
 SeesTriple-placed n n' n'' p p' x y z i j k t ex ey ez s q o = record {
   seen = record {
     subject = subst (λ l. slice_get l i ≡ Some t.subject) (sym o.grows.1) (slice_get-append n' o.grows.0 i t.subject (s.at ∙ ap Some ex));
@@ -83,7 +84,7 @@ AreSeen-more n n' p p' ps ts q t h one =
 
 -- and each predicate is still that of a triple
 pub predicates-more : (n n' p p' : List (List ℕ)) (ts : List Triple) (q : Numbered) (t : Triple) → ((x : List ℕ) → Contains p x → Contains (map (λ t. t.predicate) ts) x)
-  → SeesTriple n n' p p' q t → (x : List ℕ) → Contains p' x → Contains (map (λ t. t.predicate) ts ++ t.predicate ∷ []) x
+    → SeesTriple n n' p p' q t → (x : List ℕ) → Contains p' x → Contains (map (λ t. t.predicate) ts ++ t.predicate ∷ []) x
 predicates-more n n' p p' ts q t only one x there = elim (one.only x there) as (λ _. Contains (map (λ t. t.predicate) ts ++ t.predicate ∷ []) x) [
   | inl before ↦ Contains-append_left (map (λ t. t.predicate) ts) (t.predicate ∷ []) x (only x before)
   | inr same ↦ subst (Contains (map (λ t. t.predicate) ts ++ t.predicate ∷ [])) (sym same) (Contains-push (map (λ t. t.predicate) ts) t.predicate)
@@ -91,15 +92,15 @@ predicates-more n n' p p' ts q t only one x there = elim (one.only x there) as (
 
 -- the step of the loop over the triples: one more was seen
 pub AreSeen-step : (n n' p p' : List (List ℕ)) (ps ps' : List Numbered) (ts : List Triple) (i : ℕ) (q : Numbered) (t : Triple) → i < length ts → t ≡ get_or ts i t → ps' ≡ ps ++ q ∷ []
-  → AreSeen n p ps (take i ts) → SeesTriple n n' p p' q t → AreSeen n' p' ps' (take (i + 1) ts)
+    → AreSeen n p ps (take i ts) → SeesTriple n n' p p' q t → AreSeen n' p' ps' (take (i + 1) ts)
 AreSeen-step n n' p p' ps ps' ts i q t low is pushed h one =
     subst (λ l. AreSeen n' p' l (take (i + 1) ts)) (sym pushed)
     (subst (AreSeen n' p' (ps ++ q ∷ [])) (sym (take_more ts i t low ∙ ap (λ u. take i ts ++ u ∷ []) (sym is)))
     (AreSeen-more n n' p p' ps (take i ts) q t h one))
 
 pub predicates-step : (n n' p p' : List (List ℕ)) (ts : List Triple) (i : ℕ) (q : Numbered) (t : Triple) → i < length ts → t ≡ get_or ts i t
-  → ((x : List ℕ) → Contains p x → Contains (map (λ t. t.predicate) (take i ts)) x)
-  → SeesTriple n n' p p' q t → (x : List ℕ) → Contains p' x → Contains (map (λ t. t.predicate) (take (i + 1) ts)) x
+    → ((x : List ℕ) → Contains p x → Contains (map (λ t. t.predicate) (take i ts)) x)
+    → SeesTriple n n' p p' q t → (x : List ℕ) → Contains p' x → Contains (map (λ t. t.predicate) (take (i + 1) ts)) x
 predicates-step n n' p p' ts i q t low is only one x there =
     let more = take_more ts i t low ∙ ap (λ u. take i ts ++ u ∷ []) (sym is) in
     subst (λ l. Contains l x) (sym (ap (map (λ (u : Triple). u.predicate)) more ∙ map-append (λ (u : Triple). u.predicate) (take i ts) (t ∷ [])))
@@ -116,7 +117,7 @@ below_from_seen n p (q ∷ ps) (t ∷ ts) h =
 
 -- after all of them
 pub IsSeenWhole-end : (n p : List (List ℕ)) (ps : List Numbered) (ts : List Triple) (i : ℕ) → length ts ≤ i → AreSeen n p ps (take i ts)
-  → ((x : List ℕ) → Contains p x → Contains (map (λ t. t.predicate) (take i ts)) x) → IsSeenWhole n p ps ts
+    → ((x : List ℕ) → Contains p x → Contains (map (λ t. t.predicate) (take i ts)) x) → IsSeenWhole n p ps ts
 IsSeenWhole-end n p ps ts i past seen only =
     let all : take i ts ≡ ts = take_all i ts past in
     record {

@@ -40,7 +40,7 @@ IsTextTable-push starts bytes t starts' bytes' held canonical more pushed =
     let new : List (List ℕ) = ts ++ t ∷ [] in
     let bytes_are : bytes' ≡ joined new = more ∙ ap (λ l. l ++ t) cut.bytes_are ∙ sym (joined-push ts t) in
     let starts_are : starts' ≡ starts_of new =
-        pushed ∙ ap (λ l. l ++ length bytes' ∷ []) cut.starts_are ∙ ap (λ l. starts_of ts ++ length l ∷ []) bytes_are ∙ sym (ap (λ (ns : List ℕ). 0 ∷ ns) (ends_from-push 0 ts t ∙ ap (λ n. ends_from 0 ts ++ n ∷ []) (omega arith))) in
+    pushed ∙ ap (λ l. l ++ length bytes' ∷ []) cut.starts_are ∙ ap (λ l. starts_of ts ++ length l ∷ []) bytes_are ∙ sym (ap (λ (ns : List ℕ). 0 ∷ ns) (ends_from-push 0 ts t ∙ ap (λ n. ends_from 0 ts ++ n ∷ []) (omega arith))) in
     let texts : pieces_at starts' bytes' ≡ new = (λ i. pieces_at (starts_are i) (bytes_are i)) ∙ pieces_at-starts_of new in
     record {
       texts = texts;
@@ -67,9 +67,9 @@ between from (t ∷ ts) zero low = record {
   up = omega arith;
   within = omega (arith, length-append t (joined ts));
   text =
-    let gap : from + length t - from ≡ length t = omega arith in
-    let none : from - from ≡ 0 = omega arith in
-    ap Some (sym (rw gap (rw none (take-append_seam t (joined ts)))));
+      let gap : from + length t - from ≡ length t = omega arith in
+      let none : from - from ≡ 0 = omega arith in
+      ap Some (sym (rw gap (rw none (take-append_seam t (joined ts)))));
 }
 between from (t ∷ ts) (suc i) low =
     let rest = between (from + length t) ts i (omega arith) in
@@ -95,7 +95,7 @@ pub length-starts : (starts bytes : List ℕ) (ts : List (List ℕ)) → IsCut s
 length-starts starts bytes ts cut are = omega (arith, ap length cut.starts_are, ap length are, length-ends_from 0 (pieces_at starts bytes))
 
 pub text_between : (starts bytes : List ℕ) (ts : List (List ℕ)) (i low high : ℕ) → IsCut starts bytes → pieces_at starts bytes ≡ ts → i < length ts → low ≡ get_or starts i low → high ≡ get_or starts (i + 1) high
-  → IsText starts bytes ts i low high
+    → IsText starts bytes ts i low high
 text_between starts bytes ts i low high cut are inside at_low at_high =
     let s : starts ≡ starts_of ts = cut.starts_are ∙ ap starts_of are in
     let b : bytes ≡ joined ts = cut.bytes_are ∙ ap joined are in

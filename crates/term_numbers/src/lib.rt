@@ -16,3 +16,6 @@ mod text;
 pub use fault::NumberFault;
 pub use numbering::{number, number_by};
 pub use numbers::Numbers;
+
+#[cfg(test)]
+mod tests;

@@ -48,7 +48,13 @@ pub fn number_by<S: BuildHasher + Copy + Drop>(
     let mut nodes = IndexSet::with_hasher(alloc, hashers);
     let mut predicates = IndexSet::with_hasher(alloc, hashers);
     let places = see(alloc, triples, &mut nodes, &mut predicates)?;
-    number_seen(alloc, nodes.as_slice(), predicates.as_slice(), places, limit)
+    number_seen(
+        alloc,
+        nodes.as_slice(),
+        predicates.as_slice(),
+        places,
+        limit,
+    )
 }
 
 /// Numbers triples that were seen.
@@ -66,7 +72,14 @@ fn number_seen(
 {
     let groups = group_nodes(alloc, nodes, &places)?;
     let predicate_entries = ascending(alloc, predicates)?;
-    let triples = by_number(alloc, nodes.len(), predicates.len(), &groups, &predicate_entries, places)?;
+    let triples = by_number(
+        alloc,
+        nodes.len(),
+        predicates.len(),
+        &groups,
+        &predicate_entries,
+        places,
+    )?;
     if triples.len() > limit as usize {
         return Err(NumberFault::TooManyTriples);
     }

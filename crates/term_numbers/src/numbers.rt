@@ -105,13 +105,13 @@ pub(crate) fn numbers_of(
     triples: Vec<(u32, u32, u32)>,
 ) -> Result<Numbers, AllocError>
     ensures { IfOk result (λ numbers. numbers ≡ record {
-        terms = record {
-            shared = texts_in groups.now.shared.items;
-            subjects = texts_in groups.now.subjects.items;
-            objects = texts_in groups.now.objects.items;
-            predicates = texts_in predicates.now;
-        };
-        triples = triples.items;
+      terms = record {
+        shared = texts_in groups.now.shared.items;
+        subjects = texts_in groups.now.subjects.items;
+        objects = texts_in groups.now.objects.items;
+        predicates = texts_in predicates.now;
+      };
+      triples = triples.items;
     }) }
 {
     let mut table = Table::new(alloc)?;

@@ -61,7 +61,10 @@ fn place_near<'a, S: BuildHasher + Copy + Drop>(
 }
 
 /// The place of a text, which is put at the end if it is not there.
-fn place_in<'a, S: BuildHasher + Copy + Drop>(texts: &mut IndexSet<Text<'a>, S>, text: Text<'a>) -> Result<u32, AllocError>
+fn place_in<'a, S: BuildHasher + Copy + Drop>(
+    texts: &mut IndexSet<Text<'a>, S>,
+    text: Text<'a>,
+) -> Result<u32, AllocError>
     ensures { IfOk result (λ place. IsPlaced texts.old.keys texts.new.keys text.entry place) }
 {
     let (place, _) = texts.insert_full(text)?;
