@@ -133,8 +133,13 @@ fn is_repeat(list: &[Triple], at: usize) -> bool {
 
 /// Whether the texts of some places of the table ascend strictly.
 fn ascend(numbers: &Numbers, first: u32, count: u32) -> bool {
-    (first..first.saturating_add(count)).skip(1).all(|place| term_at(numbers, place - 1)
-        < term_at(numbers, place))
+    for i in 1..count {
+        let place = first.saturating_add(i);
+        if term_at(numbers, place.saturating_sub(1)) >= term_at(numbers, place) {
+            return false;
+        }
+    }
+    true
 }
 
 /// The place in the table of a subject and of an object with a number.
