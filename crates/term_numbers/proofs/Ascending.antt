@@ -1,7 +1,12 @@
 -- Laws of lists that ascend strictly by an order, and of the sets that they are.
-use Rattle.std.proofs.Common.{◌≡◌, ◌↔◌, ℕ, Bool, true, ◌&&◌, refl, ap, arith, List, IsPermutation, IsSorted, Contains, sym, ◌∙◌, subst}
+use Rattle.std.proofs.Common.{◌≡◌, ◌↔◌, ◌⊎◌, inl, inr, ◌≤◌, ℕ, Bool, true, ◌&&◌, refl, ap, arith, length, List, [], ◌∷◌, IsPermutation, IsSorted, Contains, sym, ◌∙◌, subst}
 use Rattle.std.proofs.lemmas.Bool.Decides.{nat_tests}
 use Rattle.std.proofs.Math.Dec.{eqb}
+use Rattle.std.proofs.lemmas.Cmp.{tied_itself}
+use Rattle.std.proofs.lemmas.List.Elements.{All-contains}
+use Rattle.std.proofs.lemmas.Map.Keys.{sorted_tail}
+use Rattle.std.proofs.lemmas.Map.Views.{All-after_first}
+use Rattle.bm_term.proofs.Elements.{Contains-head, Contains-tail, Contains-cons_cases, Contains-nil}
 use Rattle.std.proofs.lemmas.List.Kept.{IsStrictlySortedBy-dedup, Contains-from_dedup, Contains-dedup}
 use Rattle.std.proofs.lemmas.List.Sorted.{IsPermutation-sym, Contains-permutation}
 use Rattle.std.proofs.lemmas.Map.Lookups.{CmpEqualImpliesEq, exact_bytes, exact_unsigned}
@@ -53,6 +58,45 @@ module _ {X : Type 0} (cmp : X → X → Ordering) (o : IsTotalOrder cmp) (exact
           λ at. Contains-dedup equals (λ a b h. exact a b (equal_from_test (cmp a b) (sym (ties a b) ∙ h))) ys x (Contains-permutation xs ys x moved at),
         );
       })
+
+module _ {X : Type 0} (cmp : X → X → Ordering) (o : IsTotalOrder cmp) where
+  not_itself : (x : X) → cmp x x ≡ Less → ⊥
+  not_itself x h = let e = tied_itself o x in cc
+
+  -- the first item of a list that ascends is less than each later one
+  first_is_less : (x : X) (xs : List X) (z : X) → IsStrictlySortedBy cmp (x ∷ xs) → Contains xs z → cmp x z ≡ Less
+  first_is_less x xs z sorted there = All-contains (λ q. cmp x q ≡ Less) xs z (All-after_first cmp x xs sorted) there
+
+  -- of two lists that ascend, where one has no item that the other does not have
+  pub record IsPart (xs ys : List X) : Type 0 where
+    pub short : length xs ≤ length ys
+    pub whole : length xs ≡ length ys → xs ≡ ys
+
+  -- it is no longer than the other, and if it is as long, it is the other
+  pub part_of_ascending : (xs ys : List X) → IsStrictlySortedBy cmp xs → IsStrictlySortedBy cmp ys → ((z : X) → Contains xs z → Contains ys z) → IsPart xs ys
+  part_of_ascending [] [] hx hy within = record { short = omega arith; whole = λ _. refl }
+  part_of_ascending [] (y ∷ ys) hx hy within = record { short = omega arith; whole = λ e. absurd (omega arith) }
+  part_of_ascending (x ∷ xs) [] hx hy within = absurd (Contains-nil x (within x (Contains-head x xs)))
+  part_of_ascending (x ∷ xs) (y ∷ ys) hx hy within =
+      by (λ inside. part_of_ascending xs ys (sorted_tail cmp x xs hx) (sorted_tail cmp y ys hy) inside) (λ inside. part_of_ascending (x ∷ xs) ys hx (sorted_tail cmp y ys hy) inside) (Contains-cons_cases y ys x (within x (Contains-head x xs)))
+    where
+      by : (((z : X) → Contains xs z → Contains ys z) → IsPart xs ys) → (((z : X) → Contains (x ∷ xs) z → Contains ys z) → IsPart (x ∷ xs) ys) → (y ≡ x) ⊎ Contains ys x → IsPart (x ∷ xs) (y ∷ ys)
+      by shorter later (inl same) =
+          let rest = shorter (λ z there. elim (Contains-cons_cases y ys z (within z (Contains-tail x xs z there))) as (λ _. Contains ys z) [
+            | inl first ↦ absurd (not_itself x (subst (λ w. cmp x w ≡ Less) (sym first ∙ same) (first_is_less x xs z hx there)))
+            | inr at ↦ at
+          ]) in
+          record { short = omega (arith, rest.short); whole = λ e. (λ i. sym same i ∷ rest.whole (omega arith) i) }
+      by shorter later (inr x_later) =
+          let less : cmp y x ≡ Less = first_is_less y ys x hy x_later in
+          let rest = later (λ z there. elim (Contains-cons_cases y ys z (within z there)) as (λ _. Contains ys z) [
+            | inl first ↦ elim (Contains-cons_cases x xs z there) as (λ _. Contains ys z) [
+              | inl is_x ↦ subst (Contains ys) is_x x_later
+              | inr behind ↦ absurd (not_itself y (o.trans y x y less (subst (λ w. cmp x w ≡ Less) (sym first) (first_is_less x xs z hx behind))))
+            ]
+            | inr at ↦ at
+          ]) in
+          record { short = omega (arith, rest.short); whole = λ e. absurd (omega (arith, rest.short)) }
 
 -- the order of texts
 pub text_cmp-total : IsTotalOrder text_cmp

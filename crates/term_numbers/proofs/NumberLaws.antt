@@ -1,12 +1,12 @@
 -- The numbers that are written are those of the numbering, and there are as many triples as the graph has.
-use Rattle.std.proofs.Common.{◌≡◌, ◌≢◌, ◌↔◌, ℕ, zero, suc, ◌+◌, ◌<◌, ◌≤◌, ◌⊎◌, inl, inr, Bool, true, false, cond, not, bytes_eq, List, [], ◌∷◌, ◌++◌, Some, None, All, Contains, length, get_or, slice_index, map, filter, ◌&&◌, ◌||◌, fold, refl, sym, ap, ◌∙◌, subst, arith, true≢false, add-zero, zero-add, Result, Ok, Err}
+use Rattle.std.proofs.Common.{◌≡◌, ◌↔◌, ℕ, zero, suc, ◌+◌, ◌<◌, ◌≤◌, Bool, true, false, cond, not, bytes_eq, List, [], ◌∷◌, ◌++◌, Some, Contains, length, get_or, slice_index, map, filter, ◌&&◌, ◌||◌, fold, refl, sym, ap, ◌∙◌, subst, arith, true≢false, zero-add}
 use Rattle.std.proofs.lemmas.Cmp.{tied_itself}
 use Rattle.std.proofs.lemmas.List.{length-map, get_or-map}
 use Rattle.std.proofs.lemmas.List.Elements.{Contains-get_or, Contains-append_left, Contains-append_right}
 use Rattle.std.proofs.lemmas.Option.{slice_get-get_or, get_or_from_slice_get}
-use Rattle.std.specs.Cmp.Lexicographic.{same_text, on_texts_equal, slice_cmp}
+use Rattle.std.specs.Cmp.Lexicographic.{same_text}
 use Rattle.std.specs.BTreeSet.{insert_key}
-use Rattle.std.specs.List.{slice_get, list_any, IsDistinct, AllByRecursion}
+use Rattle.std.specs.List.{slice_get, IsDistinct, AllByRecursion}
 use Rattle.std.specs.List.Sorted.{IsStrictlySortedBy}
 use Rattle.std.specs.Ordering.{match_ordering}
 use Rattle.std.specs.declared.cmp.Ordering.{Ordering}
@@ -15,16 +15,16 @@ use Rattle.bm_term.specs.Graph.{triple_cmp, graph_of}
 use Rattle.bm_term.specs.SetOf.{IsSetOf, set_of}
 use Rattle.bm_term.specs.declared.triple.Triple.{Triple}
 use Rattle.bm_term.proofs.Sets.{one_set}
-use Rattle.bm_term.proofs.Elements.{Contains-head, Contains-tail, Contains-cons_cases, Contains-nil}
+use Rattle.bm_term.proofs.Elements.{Contains-head, Contains-tail}
 use Rattle.bm_term.proofs.TripleOrder.{triple_cmp-total, triple_cmp-exact}
 use Rattle.term_numbers.specs.Order.{text_cmp, Numbered, number_cmp}
-use Rattle.term_numbers.specs.Numbering.{Terms, Numbering, subject_texts, predicate_texts, object_texts, is_among, terms_of, all_subjects, all_objects, place_of, numbers_in, named, numbering_of}
+use Rattle.term_numbers.specs.Numbering.{Terms, subject_texts, predicate_texts, object_texts, is_among, terms_of, all_subjects, all_objects, place_of, numbers_in, named, numbering_of}
 use Rattle.term_numbers.specs.declared.entry.Entry.{Entry}
 use Rattle.term_numbers.specs.declared.role.Role.{Role}
-use Rattle.term_numbers.specs.held.Entries.{texts_in, is_shared, is_subject_alone, is_object_alone, IsGroup, AreGroups, AreNumbered, anywhere, PlaceIsBelow}
+use Rattle.term_numbers.specs.held.Entries.{texts_in, is_shared, is_subject_alone, is_object_alone, IsGroup, AreGroups, AreNumbered, anywhere}
 use Rattle.term_numbers.specs.held.Numbered.{NodesHave, AreByNumber, MayBeNumbered}
 use Rattle.term_numbers.specs.held.Renumbered.{renumbered}
-use Rattle.term_numbers.specs.held.Seen.{IsSeen, AreSeen, IsSeenWhole, role_of}
+use Rattle.term_numbers.specs.held.Seen.{IsSeen, AreSeen, role_of}
 use Rattle.term_numbers.proofs.Ascending.{text_cmp-total, text_cmp-exact, number_cmp-total, number_cmp-exact, set_of-is, set_of-same}
 use Rattle.term_numbers.proofs.EntryLaws.{same_some, place_inside, filter-Contains, PlacesDiffer-group}
 use Rattle.term_numbers.proofs.NumberingLaws.{from_map, Contains-map, map-same, among, among_from, not_among, bytes_eq-itself, one_place, part_in, Held, terms_held, terms_are, role_at}

@@ -1,31 +1,22 @@
 -- What was seen, grouped and numbered is the numbering of the graph.
-use Rattle.std.proofs.Common.{◌≡◌, ◌≢◌, ◌↔◌, ℕ, zero, suc, ◌+◌, ◌<◌, ◌≤◌, ◌⊎◌, inl, inr, Bool, true, false, cond, not, ◌&&◌, ◌||◌, bytes_eq, List, [], ◌∷◌, ◌++◌, Some, None, Contains, length, get_or, map, filter, fold, refl, sym, ap, ◌∙◌, subst, arith, true≢false, add-zero, zero-add, add-one}
+use Rattle.std.proofs.Common.{◌≡◌, ◌↔◌, ℕ, zero, suc, ◌⊎◌, inl, inr, Bool, true, false, not, ◌&&◌, ◌||◌, bytes_eq, List, [], ◌∷◌, Some, Contains, map, filter, refl, sym, ap, ◌∙◌, subst, true≢false}
 use Rattle.std.proofs.lemmas.Bool.{eqb-true, eq-eqb}
-use Rattle.std.proofs.lemmas.Cmp.{tied_itself}
-use Rattle.std.proofs.lemmas.List.{length-map, get_or-map}
-use Rattle.std.proofs.lemmas.List.Elements.{Contains-get_or}
 use Rattle.std.proofs.lemmas.List.Kept.{IsStrictlySortedBy-filter}
-use Rattle.std.proofs.lemmas.Map.Keys.{Less-from_sorted, sorted_head, sorted_tail}
-use Rattle.std.proofs.lemmas.Option.{slice_get-get_or, get_or_from_slice_get}
 use Rattle.std.proofs.Math.Bool.{or-true}
 use Rattle.std.proofs.Math.Dec.{eqb}
 use Rattle.std.specs.Cmp.Lexicographic.{same_text, on_texts_equal}
 use Rattle.std.specs.List.{slice_get, list_any, IsDistinct, AllByRecursion}
 use Rattle.std.specs.List.Sorted.{IsStrictlySortedBy}
-use Rattle.std.specs.declared.cmp.Ordering.TheVariants.{Less, Equal, Greater}
-use Rattle.bm_term.specs.Graph.{triple_cmp, graph_of}
 use Rattle.bm_term.specs.SetOf.{set_of}
 use Rattle.bm_term.specs.declared.triple.Triple.{Triple}
 use Rattle.bm_term.proofs.Elements.{Contains-head, Contains-tail, Contains-cons_cases, Contains-nil}
-use Rattle.bm_term.proofs.TripleOrder.{triple_cmp-total, triple_cmp-exact}
-use Rattle.term_numbers.specs.Order.{text_cmp, Numbered, number_cmp}
-use Rattle.term_numbers.specs.Numbering.{Terms, subject_texts, predicate_texts, object_texts, is_among, terms_of, all_subjects, all_objects, place_of, numbers_in}
+use Rattle.term_numbers.specs.Order.{text_cmp, Numbered}
+use Rattle.term_numbers.specs.Numbering.{Terms, subject_texts, predicate_texts, object_texts, is_among, terms_of}
 use Rattle.term_numbers.specs.declared.entry.Entry.{Entry}
-use Rattle.term_numbers.specs.declared.role.Role.{Role}
-use Rattle.term_numbers.specs.held.Entries.{texts_in, is_shared, is_subject_alone, is_object_alone, IsGroup, AreGroups, AreNumbered, anywhere}
-use Rattle.term_numbers.specs.held.Seen.{IsSeen, AreSeen, IsSeenWhole, role_of}
-use Rattle.term_numbers.proofs.Ascending.{text_cmp-total, text_cmp-exact, number_cmp-total, number_cmp-exact, set_of-is, set_of-same, same_members}
-use Rattle.term_numbers.proofs.EntryLaws.{same_some, place_inside, Contains-filter, filter-Contains}
+use Rattle.term_numbers.specs.held.Entries.{texts_in, is_shared, is_subject_alone, is_object_alone, IsGroup, AreGroups, anywhere}
+use Rattle.term_numbers.specs.held.Seen.{AreSeen, IsSeenWhole, role_of}
+use Rattle.term_numbers.proofs.Ascending.{text_cmp-total, text_cmp-exact, set_of-is, same_members}
+use Rattle.term_numbers.proofs.EntryLaws.{same_some, Contains-filter, filter-Contains}
 
 -- ---- mapped lists
 

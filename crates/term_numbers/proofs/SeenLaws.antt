@@ -1,5 +1,5 @@
 -- Laws of texts and triples in the order of first sight.
-use Rattle.std.proofs.Common.{◌≡◌, ℕ, zero, suc, ◌⊎◌, inl, inr, Bool, true, false, bytes_eq, List, [], ◌∷◌, ◌++◌, Option, None, Some, if◌then◌else◌, Contains, map, refl, sym, ◌∙◌, ap, subst, append_assoc, append-nil, ◌<◌, ◌≤◌, ◌+◌, length, take, get_or, arith, All}
+use Rattle.std.proofs.Common.{◌≡◌, ℕ, zero, suc, ◌⊎◌, inl, inr, Bool, true, false, bytes_eq, List, [], ◌∷◌, ◌++◌, Some, if◌then◌else◌, Contains, map, sym, ◌∙◌, ap, subst, append_assoc, append-nil, ◌<◌, ◌≤◌, ◌+◌, length, take, get_or, All}
 use Rattle.std.proofs.lemmas.List.{take_more, take_all, map-append}
 use Rattle.std.proofs.lemmas.List.Elements.{All-nil, All-cons, Contains-push_cases, Contains-push, Contains-append_left}
 use Rattle.std.specs.Cmp.Lexicographic.{same_text}

@@ -1,4 +1,9 @@
-//! The numbering of a graph.
+//! The numbering of a graph: four ascending lists of terms, and the triples by the places of their terms there.
+//!
+//! [`number`] gives it for a list of triples, or says that there are more distinct ones than a limit. [`Numbers`]
+//! holds it: its texts are in one piece, in the order in which an index file has them. On the way each text is
+//! known by the place at which it was first seen (`seen`), nodes are put into groups by their roles (`role`,
+//! `group`), each group is sorted (`sort`), and places become numbers (`renumber`).
 #![tactic(auto)]
 
 mod entry;
@@ -16,3 +21,6 @@ mod text;
 pub use fault::NumberFault;
 pub use numbering::{number, number_by};
 pub use numbers::Numbers;
+
+#[cfg(test)]
+mod tests;

@@ -1,5 +1,5 @@
 -- Carries proofs only: texts and triples by the order in which they were first seen.
-use Rattle.std.specs.Prelude.{◌≡◌, ℕ, ◌⊎◌, List, [], ◌∷◌, ◌++◌, Some, Contains, Bool, ◌==◌, ◌<◌, map, length, All}
+use Rattle.std.specs.Prelude.{◌≡◌, ℕ, ◌⊎◌, List, [], ◌∷◌, ◌++◌, Some, Contains, ◌==◌, ◌<◌, map, length, All}
 use Rattle.std.specs.List.{slice_get, list_any}
 use Rattle.bm_term.specs.declared.triple.Triple.{Triple}
 use Rattle.term_numbers.specs.Order.{Numbered}

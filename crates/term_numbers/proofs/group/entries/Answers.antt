@@ -1,4 +1,4 @@
-use Rattle.std.proofs.Common.{◌∙◌, sym, ap, ◌++◌, ◌∷◌, []}
+use Rattle.std.proofs.Common.{◌∙◌}
 use Rattle.term_numbers.proofs.EntryLaws.{entries-step, entries-end}
 use Rattle.term_numbers.proofs.group.entries.Goals as goal
 

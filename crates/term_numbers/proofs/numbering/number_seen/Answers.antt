@@ -1,9 +1,8 @@
 use Rattle.std.proofs.Common.{◌≡◌, length, List, subst, sym, ap, ◌∙◌, arith}
 use Rattle.bm_term.specs.Graph.{graph_of}
-use Rattle.bm_term.specs.declared.triple.Triple.{Triple}
-use Rattle.term_numbers.specs.Numbering.{Terms, Numbering, numbering_of}
+use Rattle.term_numbers.specs.Numbering.{Terms, Numbering}
 use Rattle.term_numbers.specs.Order.{Numbered}
-use Rattle.term_numbers.specs.held.Entries.{AreGroups, texts_in}
+use Rattle.term_numbers.specs.held.Entries.{AreGroups}
 use Rattle.term_numbers.specs.held.Numbered.{MayBeNumbered, AreByNumber}
 use Rattle.term_numbers.proofs.NumberingLaws.{Held, terms_held}
 use Rattle.term_numbers.proofs.NumberLaws.{MayBeNumbered-group, numbering_is, as_many_as_graph}

@@ -1,4 +1,3 @@
-use Rattle.std.proofs.Common.{take, length, subst, Contains, map, ℕ, List}
 use Rattle.term_numbers.proofs.SeenLaws.{AreSeen-step, predicates-step, IsSeenWhole-end}
 use Rattle.term_numbers.proofs.seen.see.Goals as goal
 

@@ -1,4 +1,4 @@
-use Rattle.std.proofs.Common.{sym, ap, ◌∙◌, ◌++◌, ◌∷◌, [], subst}
+use Rattle.std.proofs.Common.{ap, ◌∙◌, ◌++◌, ◌∷◌, []}
 use Rattle.term_numbers.proofs.TableLaws.{IsTextTable-push, IsPushed}
 use Rattle.term_numbers.proofs.table.Table.push.Goals as goal
 

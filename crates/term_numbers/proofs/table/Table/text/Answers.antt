@@ -1,4 +1,4 @@
-use Rattle.std.proofs.Common.{◌≡◌, sym, ap, ◌∙◌, ◌+◌, ◌-◌, ◌<◌, Some, length, take, drop, arith, subst, All}
+use Rattle.std.proofs.Common.{◌≡◌, sym, ap, ◌∙◌, ◌-◌, Some, take, drop, arith, subst, All}
 use Rattle.std.specs.List.{slice_get}
 use Rattle.bm_term.specs.Canonical.{IsCanonical}
 use Rattle.term_numbers.proofs.TableLaws.{length-starts, text_between, IsText, canonical_at}
