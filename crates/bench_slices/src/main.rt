@@ -62,7 +62,8 @@ fn find_rows(slice: &SliceRef<'_>, rows: u32) -> u32 {
     let mut found = 0u32;
     for _ in 0..1_000_000u32 {
         n = n.wrapping_mul(1_664_525).wrapping_add(1_013_904_223);
-        if slice.row((n >> 8).checked_rem(rows).unwrap_or(0)).is_some() {
+        let wanted = (u64::from(n) * u64::from(rows) >> 31) as u32;
+        if slice.row(wanted).is_some() {
             found = found.wrapping_add(1);
         }
     }
@@ -150,30 +151,19 @@ fn time_order(rt: &(impl Clock + Print + Eprint), slice: &SliceRef<'_>, step: u3
     eprintln!(rt; "row_from over a million rows, every {step}: {taken:?}")
 }
 
-fn time_orders(rt: &(impl Clock + Print + Eprint), slice: &SliceRef<'_>) -> io::Result<()> {
-    time_order(rt, slice, 1)?;
-    time_order(rt, slice, 2)?;
-    time_order(rt, slice, 16)?;
-    time_order(rt, slice, 1000)
-}
-
-fn time_masks(
-    rt: &(impl Clock + Print + Eprint),
-    alloc: Global,
-    slice: &SliceRef<'_>,
-) -> io::Result<()> {
-    let keep = vec![in alloc; u64::MAX / 3; 32_768]?;
-    let mut into = vec![in alloc; 0u64; 32_768]?;
-    time_folds(rt, slice, &keep, &mut into)
-}
-
 fn time_large(rt: &(impl Clock + Print + Eprint), alloc: Global) -> io::Result<()> {
     let bytes = short_rows(alloc, 1_000_000)?;
     let Some(slice) = check_slice(RowForm::V1, &bytes, 2 * SIDE, SIDE) else {
         return println!(rt; "no slice");
     };
-    time_masks(rt, alloc, &slice)?;
-    time_orders(rt, &slice)
+    let mut keep = vec![in alloc; u64::MAX / 3; 32_768]?;
+    let mut into = vec![in alloc; 0u64; 32_768]?;
+    time_folds(rt, &slice, &keep, &mut into)?;
+    keep.clear();
+    for step in [1u32, 2, 16, 64, 1000] {
+        time_order(rt, &slice, step)?;
+    }
+    Ok(())
 }
 
 fn main(rt: HostRuntime) -> io::Result<()> {

@@ -1,36 +1,13 @@
 //! A row found among the lines of a slice.
 
-ghost use Rattle.std.specs.Prelude.{◌≡◌, ◌+◌, ◌-◌, ◌^◌, ◌<◌, ◌≤◌, nat_lt, if◌then◌else◌, length};
+ghost use Rattle.std.specs.Prelude.{◌≡◌, ◌-◌, ◌^◌, ◌<◌, ◌≤◌, length};
 ghost use Rattle.cube_slices.specs.Lines.{LinesAscend, line_of, IsPassed};
 ghost use Rattle.cube_slices.specs.steps.Seeks.{Seeks};
 
 use crate::slice::SliceRef;
 use run_rows::RowRef;
 
-/// 1 where the number is below `n`, and else 0, without a branch.
-fn below(number: u32, n: u32) -> u32
-    ensures { result ≡ (if nat_lt number n then 1 else 0) }
-{
-    (u64::from(number).wrapping_sub(u64::from(n)) >> 63) as u32
-}
-
-/// The half in which the search goes on, without a branch: behind the middle where `upper` is 1, and before it
-/// where it is 0.
-fn half(upper: u32, low: u32, middle: u32, high: u32) -> (u32, u32)
-    requires bit { upper ≤ 1 }
-    requires ordered { low ≤ middle }
-    requires within { middle < high }
-    ensures lower { upper ≡ 0 → (result.0 ≡ low) × (result.1 ≡ middle) }
-    ensures upper { upper ≡ 1 → (result.0 ≡ middle + 1) × (result.1 ≡ high) }
-{
-    (
-        low + upper * (middle + 1 - low),
-        middle + upper * (high - middle),
-    )
-}
-
-/// The place of the first line that is not before row `n`, by halving between two places. Which half it is can't
-/// be foreseen, so it is computed, and no branch is taken on it.
+/// The place of the first line that is not before row `n`, by halving between two places.
 fn halve(slice: &SliceRef<'_>, low: u32, high: u32, n: u32) -> u32
     requires seeks { Seeks n slice.now low high }
     requires ascend { LinesAscend 0 (2 ^ 32 - 1) (2 ^ 32 - 1) slice.now }
@@ -40,9 +17,11 @@ fn halve(slice: &SliceRef<'_>, low: u32, high: u32, n: u32) -> u32
     let mut high = high;
     while low < high {
         let middle = low + (high - low) / 2;
-        let part = half(below(slice.row_number(middle), n), low, middle, high);
-        low = part.0;
-        high = part.1;
+        if slice.row_number(middle) < n {
+            low = middle + 1;
+        } else {
+            high = middle;
+        }
     }
     low
 }
