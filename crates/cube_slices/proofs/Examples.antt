@@ -1,5 +1,5 @@
 -- Worked examples of the definitions.
-use Rattle.std.proofs.Common.{◌≡◌, ℕ, ◌<◌, List, [], ◌∷◌, Some, None, refl, lit<, inl, inr, arith}
+use Rattle.std.proofs.Common.{◌≡◌, ℕ, List, [], ◌∷◌, Some, None, refl, lit<, inl, inr, arith}
 use Rattle.byte_tables.specs.Pairs.{pair_bytes, pairs_in}
 use Rattle.run_rows.specs.declared.form.RowForm.TheVariants.{V1}
 use Rattle.run_rows.specs.Encoding.{run_bytes, row_bytes, runs_in, row_numbers}

@@ -1,13 +1,12 @@
 -- Laws of lines and their pairs: they determine each other.
-use Rattle.std.proofs.Common.{◌≡◌, ◌≢◌, ◌⊎◌, ◌↔◌, ℕ, zero, suc, ◌+◌, ◌*◌, ◌^◌, ◌<◌, ◌≤◌, List, [], ◌∷◌, ◌++◌, length, map, refl, sym, ap, ◌∙◌, subst, inl, inr, arith, eq-eqb, length-append}
+use Rattle.std.proofs.Common.{◌≡◌, ◌≢◌, ℕ, ◌+◌, ◌*◌, ◌^◌, ◌<◌, ◌≤◌, List, [], ◌∷◌, ◌++◌, length, map, refl, sym, ap, ◌∙◌, subst, inl, inr, arith, eq-eqb, length-append}
 use Rattle.std.proofs.lemmas.Bool.{cases_eq}
 use Rattle.std.proofs.lemmas.Bool.Decides.{nat_tests}
-use Rattle.run_rows.specs.Row.{AscendsWithin, IsRow}
-use Rattle.run_rows.proofs.RowLaws.{AscendsWithin-lower}
+use Rattle.run_rows.specs.Row.{IsRow}
 use Rattle.std.proofs.lemmas.List.{length-map}
 use Rattle.run_rows.proofs.EncodingLaws.{length-row-le}
 use Rattle.cube_slices.specs.Lines.{Line, LinesAscend, AreLines, pairs_of_line, pairs_of}
-use Rattle.cube_slices.specs.Pairs.{ComesBefore, ComesFirst, PairsAscend, ArePairs, with_pair, lines_of}
+use Rattle.cube_slices.specs.Pairs.{ComesBefore, PairsAscend, ArePairs, with_pair, lines_of}
 use Rattle.cube_slices.proofs.LineLaws.{LinesAscend-lower}
 
 -- a pair of the first line's row joins it

@@ -1,17 +1,16 @@
 -- Laws of writing: the pairs of a row in front of others, and what is out with what is left.
-use Rattle.std.proofs.Common.{◌≡◌, ◌≢◌, ℕ, zero, suc, ◌+◌, ◌-◌, ◌*◌, ◌^◌, ◌<◌, ◌≤◌, List, [], ◌∷◌, ◌++◌, length, get_or, map, take, drop, refl, sym, ap, ◌∙◌, subst, inl, inr, arith, add-one, eq-eqb, append_assoc, length-append}
+use Rattle.std.proofs.Common.{◌≡◌, ◌≢◌, ℕ, suc, ◌+◌, ◌-◌, ◌*◌, ◌^◌, ◌<◌, ◌≤◌, List, [], ◌∷◌, ◌++◌, length, get_or, map, take, drop, refl, sym, ap, ◌∙◌, subst, inl, inr, arith, add-one, eq-eqb, append_assoc, length-append}
 use Rattle.std.proofs.lemmas.Bool.{cases_eq}
 use Rattle.std.proofs.lemmas.Bool.Decides.{nat_tests}
 use Rattle.std.proofs.lemmas.List.{append-nil}
 use Rattle.std.specs.List.{flat_map}
 use Rattle.byte_tables.specs.Pairs.{pair_bytes}
-use Rattle.byte_tables.specs.Writing.{BeginsWith}
 use Rattle.byte_tables.proofs.WritingLaws.{BeginsWith-same, BeginsWith-appended, BeginsWith-then}
 use Rattle.run_rows.specs.declared.form.RowForm.{RowForm}
 use Rattle.run_rows.specs.Row.{IsRow}
 use Rattle.run_rows.specs.Encoding.{row_bytes}
 use Rattle.run_rows.proofs.EncodingLaws.{length-row_bytes-le}
-use Rattle.cube_slices.specs.Lines.{Line, LinesAscend, AreLines, pairs_of}
+use Rattle.cube_slices.specs.Lines.{Line, LinesAscend, pairs_of}
 use Rattle.cube_slices.specs.Pairs.{ArePairs, with_pair, lines_of}
 use Rattle.cube_slices.specs.Slices.{bytes_of_lines, entries_of, slice_bytes, EncodesLines}
 use Rattle.cube_slices.specs.steps.Writing.{line_length, columns_of, IsListing, IsFilling}

@@ -1,5 +1,5 @@
 -- Pairs of a row and a column, and the lines that they make.
-use Rattle.std.specs.Prelude.{◌≡◌, ℕ, ◌+◌, ◌<◌, ◌⊎◌, ◌==◌, List, [], ◌∷◌, length, if◌then◌else◌}
+use Rattle.std.specs.Prelude.{◌≡◌, ℕ, ◌<◌, ◌⊎◌, ◌==◌, List, [], ◌∷◌, length, if◌then◌else◌}
 use Rattle.cube_slices.specs.Lines.{Line}
 
 -- the first pair comes before the second: by row, and in a row by column

@@ -1,4 +1,4 @@
-use Rattle.std.proofs.Common.{◌≡◌, ◌+◌, ◌-◌, ℕ, length, List, [], subst, sym, arith, rules, IsTrue, true, eqb-true, eq-eqb}
+use Rattle.std.proofs.Common.{ℕ, length, List, subst, sym, rules, eqb-true, eq-eqb}
 use Rattle.cube_slices.specs.Slices.{AreEntries}
 use Rattle.cube_slices.proofs.EntryLaws.{AreEntries-first}
 use Rattle.cube_slices.proofs.check.are_entries.Goals as goal

@@ -1,4 +1,4 @@
-use Rattle.std.proofs.Common.{List, ℕ, ◌∙◌, sym, refl, arith}
+use Rattle.std.proofs.Common.{◌∙◌, arith}
 use Rattle.cube_slices.proofs.SliceLaws.{IsShown-slice, EncodesLines-slice, slice_lines-encodes}
 use Rattle.cube_slices.proofs.slice.view_slice.Goals as goal
 
