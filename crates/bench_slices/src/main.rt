@@ -56,14 +56,15 @@ fn check_pieces(bytes: &[u8], len: usize) -> u32 {
     slices
 }
 
-/// How many of a million rows at random are found.
-fn find_rows(slice: &SliceRef<'_>, rows: u32) -> u32 {
+/// How many of a million rows at random, all below a number, are found.
+fn find_rows(slice: &SliceRef<'_>, end: u32) -> u32
+    requires { 0 < end }
+{
     let mut n = 1u32;
     let mut found = 0u32;
     for _ in 0..1_000_000u32 {
         n = n.wrapping_mul(1_664_525).wrapping_add(1_013_904_223);
-        let wanted = (u64::from(n) * u64::from(rows) >> 31) as u32;
-        if slice.row(wanted).is_some() {
+        if slice.row((n >> 8) % end).is_some() {
             found = found.wrapping_add(1);
         }
     }
@@ -135,17 +136,19 @@ fn time_find(
     rows: u32,
 ) -> io::Result<()> {
     let start = Instant::now(rt)?;
-    let found = find_rows(slice, rows);
+    let found = find_rows(slice, rows.saturating_mul(2).max(1));
     let taken = start.elapsed(rt)?;
     println!(rt; "found at random: {found}")?;
     eprintln!(rt; "a million calls of row in {rows} rows: {taken:?}")
 }
 
-fn time_order(rt: &(impl Clock + Print + Eprint), slice: &SliceRef<'_>, step: u32) -> io::Result<()>
-    requires { 0 < step }
-{
+fn time_order(
+    rt: &(impl Clock + Print + Eprint),
+    slice: &SliceRef<'_>,
+    step: u32,
+) -> io::Result<()> {
     let start = Instant::now(rt)?;
-    let found = find_in_order(slice, step);
+    let found = find_in_order(slice, step.max(1));
     let taken = start.elapsed(rt)?;
     println!(rt; "found in order, every {step}: {found}")?;
     eprintln!(rt; "row_from over a million rows, every {step}: {taken:?}")

@@ -26,6 +26,66 @@ fn halve(slice: &SliceRef<'_>, low: u32, high: u32, n: u32) -> u32
     low
 }
 
+/// A place from `low` on and before `high`: where row `n` would stand if the rows lay evenly from `below` to `above`.
+fn even_place(low: u32, high: u32, below: u32, above: u32, n: u32) -> u32
+    requires { low < high }
+    ensures from_low { low ≤ result }
+    ensures before_high { result < high }
+{
+    let room = (high - low) as u64;
+    let ahead = n.saturating_sub(below) as u64;
+    let span = above.saturating_sub(below) as u64 + 1;
+    let steps = (ahead.saturating_mul(room) / span).min(room - 1);
+    low + steps as u32
+}
+
+/// Two places between which the first line that is not before row `n` stands, close together where the rows lie evenly:
+/// two guesses, and then steps that double from the last of them.
+fn guess(slice: &SliceRef<'_>, rows: u32, n: u32) -> (u32, u32)
+    requires count { rows ≡ length slice.now }
+    requires ascend { LinesAscend 0 (2 ^ 32 - 1) (2 ^ 32 - 1) slice.now }
+    ensures { Seeks n slice.now result.0 result.1 }
+{
+    if rows == 0 {
+        return (0, 0);
+    }
+    let below = slice.row_number(0);
+    let above = slice.row_number(rows - 1);
+    let first = even_place(0, rows, below, above, n);
+    let row = slice.row_number(first);
+    if row < n {
+        return gallop(slice, first + 1, n);
+    }
+    if first == 0 {
+        return (0, 0);
+    }
+    let second = even_place(0, first, below, row, n);
+    if slice.row_number(second) < n {
+        gallop(slice, second + 1, n)
+    } else {
+        gallop_back(slice, second, n)
+    }
+}
+
+/// The same from a place back: the steps double until a line is met that is before row `n`.
+fn gallop_back(slice: &SliceRef<'_>, from: u32, n: u32) -> (u32, u32)
+    requires seeks { Seeks n slice.now 0 from }
+    requires ascend { LinesAscend 0 (2 ^ 32 - 1) (2 ^ 32 - 1) slice.now }
+    ensures { Seeks n slice.now result.0 result.1 }
+{
+    let mut high = from;
+    let mut step = 0u32;
+    while step < high {
+        let probe = high - 1 - step;
+        if slice.row_number(probe) < n {
+            return (probe + 1, high);
+        }
+        high = probe;
+        step = step.saturating_mul(2).saturating_add(1);
+    }
+    (0, high)
+}
+
 /// Two places between which the first line that is not before row `n` stands. From a place on, the steps double
 /// until a line is met that is not before it.
 fn gallop(slice: &SliceRef<'_>, from: u32, n: u32) -> (u32, u32)
@@ -62,12 +122,13 @@ fn found_at<'a>(slice: &SliceRef<'a>, place: u32, n: u32) -> Option<RowRef<'a>>
 }
 
 impl<'a> SliceRef<'a> {
-    /// Row `n`, found by halving. `None` exactly where it has no pair.
+    /// Row `n`, found by a guess and then by halving. `None` exactly where it has no pair.
     pub fn row(&self, n: u32) -> Option<RowRef<'a>>
         ensures row { result ≡ line_of n self.now }
         ensures ascend { LinesAscend 0 (2 ^ 32 - 1) (2 ^ 32 - 1) self.now }
     {
-        let place = halve(self, 0, self.rows(), n);
+        let (low, high) = guess(self, self.rows(), n);
+        let place = halve(self, low, high, n);
         found_at(self, place, n)
     }
 
