@@ -2,6 +2,7 @@
 # `make try` asks it in half a minute, with no proof; `make gate` runs the gate; `make runs` the stored runs alone;
 # `make bench` times the program and its parts; `make random` compares it with an evaluator of its own in Python, on
 # random queries; `make pages` writes the pages of docs/ that are made.
+# `bench/standards.py ./bitmat FOLDER` runs the tests of the W3C that you have in a folder.
 .PHONY: example try gate runs bench random pages build
 
 INSTRUMENTS = hierarchy labels overview
