@@ -1,9 +1,9 @@
 # `make example` builds the program, compares its answers to the examples with those stored, and asks the first again;
 # `make try` asks it in half a minute, with no proof; `make gate` runs the gate; `make runs` the stored runs alone;
 # `make bench` times the program and its parts; `make random` compares it with an evaluator of its own in Python, on
-# random queries; `make pages` writes the pages of docs/ that are made.
-# `bench/standards.py ./bitmat FOLDER` runs the tests of the W3C that you have in a folder.
-.PHONY: example try gate runs bench random pages build
+# random queries; `make standards FOLDER=..` runs the tests of the W3C that you have in a folder; `make pages` writes the
+# pages of docs/ that are made.
+.PHONY: example try gate runs bench random standards pages build
 
 INSTRUMENTS = hierarchy labels overview
 BENCHES = bench_rows bench_lanes bench_slices bench_terms bench_reading bench_numbers bench_results
@@ -32,6 +32,9 @@ bench: build
 
 random: build
 	bench/random_queries.py ./bitmat 2000
+
+standards: build
+	bench/standards.py ./bitmat $(FOLDER)
 
 pages:
 	tools/headline.py
