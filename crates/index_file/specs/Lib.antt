@@ -1,0 +1,4 @@
+pub mod Families
+pub mod Layout
+pub mod Image
+pub mod Conditions
