@@ -1,3 +1,4 @@
 pub mod Ascending
 pub mod Examples
+pub mod FamilyLaws
 pub mod LayoutLaws
