@@ -47,7 +47,8 @@ module _ {X : Type 0} (cmp : X → X → Ordering) where
 -- ---- a list within another
 
 module _ {X : Type 0} (cmp : X → X → Ordering) (o : IsTotalOrder cmp) (exact : CmpEqualImpliesEq cmp) where
-  not_below_itself : (x : X) → cmp x x ≡ Less → ⊥
+  -- no item is below itself
+  pub not_below_itself : (x : X) → cmp x x ≡ Less → ⊥
   not_below_itself x less = let tie = tied_itself o x in cc
 
   -- a list that ascends and is within another is no longer, and is the other where that is no longer

@@ -77,7 +77,7 @@ abbrev pub EachAscends : List (List (ℕ × ℕ)) → Type 0
 EachAscends [] = Unit {0}
 EachAscends (ps ∷ pss) = IsStrictlySortedBy pair_cmp ps × EachAscends pss
 
-nothing_ascends : {X : Type 0} (cmp : X → X → Ordering) → IsStrictlySortedBy cmp []
+pub nothing_ascends : {X : Type 0} (cmp : X → X → Ordering) → IsStrictlySortedBy cmp []
 unfolding IsStrictlySortedBy
 nothing_ascends cmp = tt
 
