@@ -6,3 +6,5 @@ pub mod LayoutLaws
 pub mod NamingLaws
 pub mod ReadingLaws
 pub mod SlicePairLaws
+pub mod StoredLaws
+pub mod TermGroupLaws

@@ -26,7 +26,7 @@ abbrev pub Differ : List (List ℕ) → Type 0
 Differ [] = Unit {0}
 Differ (x ∷ xs) = (Contains xs x → ⊥) × Differ xs
 
-Differ-ascending : (xs : List (List ℕ)) → IsStrictlySortedBy text_cmp xs → Differ xs
+pub Differ-ascending : (xs : List (List ℕ)) → IsStrictlySortedBy text_cmp xs → Differ xs
 unfolding IsStrictlySortedBy
 Differ-ascending [] h = tt
 Differ-ascending (x ∷ xs) h = ((λ there. not_below_itself text_cmp text_cmp-total text_cmp-exact x (member_of_all (λ y. text_cmp x y ≡ Less) xs h.0 x there)), Differ-ascending xs h.1)
@@ -41,7 +41,7 @@ Differ-append (x ∷ xs) ys hx hy apart =
     by (inr after) = apart x (Contains-head x xs) after
 
 -- so a text's place is where it is
-place_of_differ : (l : List (List ℕ)) (k : ℕ) (x : List ℕ) → Differ l → k < length l → get_or l k [] ≡ x → place_of l x ≡ k
+pub place_of_differ : (l : List (List ℕ)) (k : ℕ) (x : List ℕ) → Differ l → k < length l → get_or l k [] ≡ x → place_of l x ≡ k
 place_of_differ [] k x differ low at = absurd (omega arith)
 place_of_differ (y ∷ l) zero x differ low at = ap (λ b. cond (not b) (1 + place_of l x) 0) (ap (bytes_eq x) at ∙ bytes_eq-itself x)
 place_of_differ (y ∷ l) (suc k) x differ low at =
@@ -53,7 +53,8 @@ place_of_differ (y ∷ l) (suc k) x differ low at =
     by true e there one = absurd (differ.0 (subst (Contains l) (same_text x y (sym e)) there))
     by false e there one = ap (λ b. cond (not b) (1 + place_of l x) 0) e ∙ one
 
-place_below : (l : List (List ℕ)) (x : List ℕ) → is_among l x ≡ true → place_of l x < length l
+-- a text that is there has its place in the list
+pub place_below : (l : List (List ℕ)) (x : List ℕ) → is_among l x ≡ true → place_of l x < length l
 place_below [] x there = absurd (true≢false (sym there))
 place_below (y ∷ l) x there = by (bytes_eq x y) (λ rest. place_below l x rest) there
   where
@@ -81,10 +82,12 @@ pub record UseAll (terms : Terms) (ts : List Numbered) : Type 0 where
   pub each_predicate : (n : ℕ) → n < length terms.predicates → (t : Numbered) × Contains ts t × (t.1 ≡ n)
   pub each_object : (n : ℕ) → n < length (all_objects terms) → (t : Numbered) × Contains ts t × (t.2 ≡ n)
 
+-- the graph that they name
 abbrev pub graph_named : Terms → List Numbered → List Triple
 graph_named terms ts = graph_of (map (named terms) ts)
 
-graph_is : (terms : Terms) (ts : List Numbered) (u : Triple) → Contains (graph_named terms ts) u ↔ Contains (map (named terms) ts) u
+-- it has the triples that are named
+pub graph_is : (terms : Terms) (ts : List Numbered) (u : Triple) → Contains (graph_named terms ts) u ↔ Contains (map (named terms) ts) u
 graph_is terms ts u = (set_of-is triple_cmp triple_cmp-total triple_cmp-exact (map (named terms) ts)).same u
 
 -- the texts of one part of the graph are those of the list that its numbers speak of
@@ -104,7 +107,8 @@ module _ (terms : Terms) (ts : List Numbered) (l : List (List ℕ)) (f : Numbere
             same.1 (subst (Contains (map p (graph_named terms ts))) is (Contains-map p (graph_named terms ts) (named terms t.0) inside)),
       )
 
-no_text : (b : Bool) → not b ≡ true → b ≡ true → ⊥
+-- what is among texts is not what is not
+pub no_text : (b : Bool) → not b ≡ true → b ≡ true → ⊥
 no_text true n h = true≢false (sym n)
 no_text false n h = true≢false (sym h)
 

@@ -84,7 +84,7 @@ module _ (form : RowForm) (l : Layout) (read : IsRead form l) where
       let zero_more : 0 + n ≡ n = omega arith in
       (triple_at f (0 + n) p.0, no_more f (triple_at f (0 + n) p.0) (triple_of_pair f 0 (pairs f) n p.0 p.1), slice_again f (0 + n) p.0 ∙ zero_more)
 
-  all_used : UseAll terms first
+  pub all_used : UseAll terms first
   all_used = record {
     subject = λ t there. let k = pair_of_triple So 0 (pairs So) t there in omega (arith, ((pairs_read So).within k.0 (pair_of So t) k.2).0, length-all_subjects terms, counted.shared, counted.subjects);
     predicate = λ t there. let k = pair_of_triple So 0 (pairs So) t there in omega (arith, k.1, slice_there (pairs So) k.0 (pair_of So t) k.2, as_many_slices So);

@@ -34,10 +34,10 @@ pub record LengthsAgree (bytes : List ℕ) : Type 0 where
 
 -- each term has its kind of text
 pub record AreCanonical (terms : Terms) : Type 0 where
-  pub shared : All (λ x. ∥ IsNode x ∥₁) terms.shared
-  pub subjects : All (λ x. ∥ IsNode x ∥₁) terms.subjects
-  pub objects : All (λ x. ∥ IsCanonical x ∥₁) terms.objects
-  pub predicates : All (λ x. ∥ IsTextOf Iri x ∥₁) terms.predicates
+  pub shared : All IsNode terms.shared
+  pub subjects : All IsNode terms.subjects
+  pub objects : All IsCanonical terms.objects
+  pub predicates : All (IsTextOf Iri) terms.predicates
 
 -- each group ascends, and no text stands in two of the first three
 pub record AreOrdered (terms : Terms) : Type 0 where
@@ -102,6 +102,6 @@ pub record IsIndex (version : ℕ) (form : RowForm) (bytes : List ℕ) : Type 0 
 -- four bytes can tell.
 pub record IsStorable (version : ℕ) (form : RowForm) (graph : List Triple) : Type 0 where
   pub ascends : IsStrictlySortedBy triple_cmp graph
-  pub triples : All (λ t. ∥ IsRdfTriple t ∥₁) graph
+  pub triples : All IsRdfTriple graph
   pub few : length graph ≤ most_triples
   pub short : length (image_of version form graph) < 2 ^ 32
