@@ -8,3 +8,4 @@ pub mod ReadingLaws
 pub mod SlicePairLaws
 pub mod StoredLaws
 pub mod TermGroupLaws
+pub mod WritingLaws
