@@ -2,6 +2,7 @@ pub mod Ascending
 pub mod Examples
 pub mod FamilyLaws
 pub mod GroupLaws
+pub mod ImageLaws
 pub mod LayoutLaws
 pub mod NamingLaws
 pub mod ReadingLaws

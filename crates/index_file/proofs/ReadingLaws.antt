@@ -36,7 +36,7 @@ pub record IsRead (form : RowForm) (l : Layout) : Type 0 where
   pub agreement : FamiliesAgree form l
 
 -- a slice that has a pair is one of the slices
-slice_there : {X : Type 0} (xss : List (List X)) (k : ℕ) (x : X) → Contains (get_or xss k []) x → k < length xss
+pub slice_there : {X : Type 0} (xss : List (List X)) (k : ℕ) (x : X) → Contains (get_or xss k []) x → k < length xss
 slice_there xss k x there = by (cases_lt k (length xss))
   where
     by : (k < length xss) ⊎ (length xss ≤ k) → k < length xss

@@ -105,3 +105,8 @@ pub record IsStorable (version : ℕ) (form : RowForm) (graph : List Triple) : T
   pub triples : All IsRdfTriple graph
   pub few : length graph ≤ most_triples
   pub short : length (image_of version form graph) < 2 ^ 32
+
+-- the bytes are the image of a graph within the limits
+pub record IsImageOf (version : ℕ) (form : RowForm) (graph : List Triple) (bytes : List ℕ) : Type 0 where
+  pub storable : IsStorable version form graph
+  pub spelled : bytes ≡ image_of version form graph

@@ -5,5 +5,6 @@
 #![tactic(auto)]
 
 mod family;
+pub mod laws;
 
 pub use family::Family;
