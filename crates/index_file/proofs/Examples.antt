@@ -1,5 +1,7 @@
 -- Worked examples of the definitions.
-use Rattle.std.proofs.Common.{◌≡◌, ℕ, List, [], ◌∷◌, ◌++◌, codes, refl}
+use Rattle.std.proofs.Common.{◌≡◌, ℕ, List, [], ◌∷◌, ◌++◌, take, codes, refl, arith}
+use Rattle.byte_tables.specs.Pieces.{CutWhole}
+use Rattle.index_file.specs.Conditions.{HeaderIsKnown, LengthsAgree}
 use Rattle.byte_tables.specs.Numbers.{number_bytes, numbers_in}
 use Rattle.byte_tables.specs.Pairs.{pair_bytes, pairs_in}
 use Rattle.run_rows.specs.declared.form.RowForm.TheVariants.{V1}
@@ -62,3 +64,24 @@ of_two = refl
 from_two : graph_in V1 two_image ≡ two_triples
 unfolding layout_in numbers_in number_bytes slice_lines pairs_in row_numbers runs_in
 from_two = refl
+
+-- ---- bytes that are no image
+
+-- version 0 is not known as 1
+zero_version : HeaderIsKnown 1 (image_of 0 V1 []) → ⊥
+unfolding layout_bytes name number_bytes numbers_in
+zero_version header = let known : ◌≡◌ {A = ℕ} 0 1 = header.known in omega arith
+
+-- the image of the empty graph with one byte more has another length
+one_more : LengthsAgree (empty_image ++ 0 ∷ []) → ⊥
+unfolding number_bytes numbers_in
+one_more lengths = let whole : ◌≡◌ {A = ℕ} 52 53 = lengths.whole in omega arith
+
+-- and with its last byte left out
+one_less : LengthsAgree (take 51 empty_image) → ⊥
+unfolding number_bytes numbers_in
+one_less lengths = let whole : ◌≡◌ {A = ℕ} 52 51 = lengths.whole in omega arith
+
+-- texts that start at 0, 2 and 2: the second has no byte
+empty_text : CutWhole 2 (0 ∷ 2 ∷ 2 ∷ []) → ⊥
+empty_text cut = omega (arith, cut.1.1.0)

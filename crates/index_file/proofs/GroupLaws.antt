@@ -2,7 +2,7 @@
 use Rattle.std.proofs.Common.{◌≡◌, ℕ, ◌+◌, ◌*◌, List, ◌++◌, length, take, drop, refl, sym, ap, ◌∙◌, arith, length-append}
 use Rattle.std.proofs.lemmas.List.{length-take, length-drop, take_at, drop_at, take-append-drop, drop-drop}
 use Rattle.term_numbers.specs.Numbering.{Terms, all_subjects, all_objects, term_table}
-use Rattle.index_file.proofs.LayoutLaws.{CanBeLaidOut}
+use Rattle.index_file.specs.LaidOut.{CanBeLaidOut}
 use Rattle.index_file.specs.Layout.{Layout}
 use Rattle.index_file.specs.Image.{slices_for, terms_in, group_in}
 use Rattle.index_file.specs.Conditions.{rows_for, columns_for}

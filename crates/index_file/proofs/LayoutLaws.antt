@@ -7,18 +7,9 @@ use Rattle.byte_tables.proofs.NumberLaws.{IsBytes-take, IsBytes-drop, numbers_in
 use Rattle.byte_tables.proofs.PieceLaws.{pieces_at-starts_of, CutWhole-starts_of, length-starts_of, IsTable, IsTable-cut}
 use Rattle.index_file.specs.Layout.{Layout, name, size_for, file_size, head_numbers, layout_bytes, head_in, field, text_count, slice_count, after_head, text_starts, after_starts, text_part, after_texts, slice_starts, slice_part, layout_in}
 use Rattle.index_file.specs.Conditions.{most_triples, HeaderIsKnown, LengthsAgree}
+use Rattle.index_file.specs.LaidOut.{CanBeLaidOut, IsLaidOut}
 
 -- ---- from a layout to bytes
-
--- a layout whose counts are those of its lists, each text and slice of which has a byte, and whose numbers fit
-pub record CanBeLaidOut (l : Layout) : Type 0 where
-  pub texts : length l.texts ≡ l.shared + l.subjects + l.objects + l.predicates
-  pub slices : length l.slices ≡ 2 * l.predicates + (l.shared + l.objects) + (l.shared + l.subjects)
-  pub have_texts : HaveBytes l.texts
-  pub have_slices : HaveBytes l.slices
-  pub known : l.version < 2 ^ 32
-  pub few : l.triples ≤ most_triples
-  pub short : file_size l < 2 ^ 32
 
 -- the bytes of a layout are as many as its size says
 pub length-layout_bytes : (l : Layout) → length (layout_bytes l) ≡ file_size l
@@ -108,13 +99,6 @@ layout_in-layout_bytes l can =
       texts = texts i;
       slices = slices i;
     }
-
--- the conditions on header, length and both tables
-pub record IsLaidOut (version : ℕ) (bytes : List ℕ) : Type 0 where
-  pub header : HeaderIsKnown version bytes
-  pub lengths : LengthsAgree bytes
-  pub texts : CutWhole (field bytes 6) (text_starts bytes)
-  pub slices : CutWhole (field bytes 7) (slice_starts bytes)
 
 name_first : (l : Layout) → take 8 (layout_bytes l) ≡ name
 unfolding layout_bytes name

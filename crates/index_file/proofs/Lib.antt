@@ -4,6 +4,7 @@ pub mod FamilyLaws
 pub mod GroupLaws
 pub mod ImageLaws
 pub mod LayoutLaws
+pub mod LookUpLaws
 pub mod NamingLaws
 pub mod ReadingLaws
 pub mod SlicePairLaws

@@ -16,7 +16,8 @@ use Rattle.term_numbers.proofs.NumberLaws.{length-set_of}
 use Rattle.index_file.proofs.Ascending.{has_all, length_of_same}
 use Rattle.index_file.proofs.FamilyLaws.{family_cmp, family_cmp-total, family_cmp-exact, pair_of_triple, triple_of_pair, ascends-triples_from, slices_of-same, slice_again, pair_again}
 use Rattle.index_file.proofs.GroupLaws.{term_table-terms_in, slices-group_in, TermCounts, TermCounts-terms_in, length-all_subjects, length-all_objects, length-group_in}
-use Rattle.index_file.proofs.LayoutLaws.{CanBeLaidOut, IsLaidOut, IsReadWhole, IsReadWhole-laid_out}
+use Rattle.index_file.proofs.LayoutLaws.{IsReadWhole, IsReadWhole-laid_out}
+use Rattle.index_file.specs.LaidOut.{CanBeLaidOut, IsLaidOut}
 use Rattle.index_file.proofs.NamingLaws.{UseAll, graph_named, numbering_of-graph_named}
 use Rattle.index_file.proofs.SlicePairLaws.{AreRead, AreRead-slices, bytes_of_pieces}
 use Rattle.index_file.specs.Families.{slice_number, pair_of, triple_at, slices_of, triples_from}

@@ -16,7 +16,8 @@ use Rattle.term_numbers.proofs.NumberingLaws.{map-same}
 use Rattle.index_file.proofs.Ascending.{length_of_same}
 use Rattle.index_file.proofs.FamilyLaws.{family_cmp, family_cmp-total, family_cmp-exact, pair_of_triple, triple_of_pair, ascends-triples_from, ascends-slices_of, length-slices_of, from_slices_of, to_slices_of}
 use Rattle.index_file.proofs.GroupLaws.{TermCounts, length-all_subjects, length-all_objects, terms_in-table, group_in-families}
-use Rattle.index_file.proofs.LayoutLaws.{CanBeLaidOut, length-layout_bytes, layout_in-layout_bytes, IsLaidOut, IsLaidOut-layout_bytes}
+use Rattle.index_file.proofs.LayoutLaws.{length-layout_bytes, layout_in-layout_bytes, IsLaidOut-layout_bytes}
+use Rattle.index_file.specs.LaidOut.{CanBeLaidOut, IsLaidOut}
 use Rattle.index_file.proofs.NamingLaws.{UseAll, graph_named}
 use Rattle.index_file.proofs.SlicePairLaws.{AreFull, AreWritten, AreWritten-pairs, HaveBytes-slices}
 use Rattle.index_file.proofs.StoredLaws.{AreCanonical-terms_of, HaveBytes-terms}

@@ -2,3 +2,4 @@ pub mod Families
 pub mod Layout
 pub mod Image
 pub mod Conditions
+pub mod LaidOut

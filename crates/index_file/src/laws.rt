@@ -13,7 +13,8 @@ ghost use Rattle.index_file.specs.declared.family.Family.TheVariants.{So};
 ghost use Rattle.index_file.specs.Conditions.{IsImageOf, IsIndex, IsStorable};
 ghost use Rattle.index_file.specs.Families.{pairs_in, slice_number, slices_of, triple_at, triples_from};
 ghost use Rattle.index_file.specs.Image.{graph_in, image_of, terms_in, triples_in};
-ghost use Rattle.index_file.specs.Layout.{layout_in};
+ghost use Rattle.index_file.specs.LaidOut.{CanBeLaidOut, IsLaidOut};
+ghost use Rattle.index_file.specs.Layout.{Layout, file_size, layout_bytes, layout_in};
 
 /// The seven conditions hold exactly where the bytes are the image of a graph within the limits. That is the graph that
 /// the bytes stand for.
@@ -51,4 +52,13 @@ pub fn families_have_the_triples()
     ensures triples { (family : Family) (count : ℕ) (triples : List Numbered) (triple : Numbered) →
         Contains (triples_from family 0 (slices_of family 0 count triples)) triple
         ↔ (Contains triples triple × (slice_number family triple < count)) }
+{}
+
+/// What was laid out is read again, and bytes that a layout is read from are those in which it is laid out.
+pub fn a_layout_and_its_bytes_determine_each_other()
+    ensures read { (l : Layout) → CanBeLaidOut l → layout_in (layout_bytes l) ≡ l }
+    ensures laid_out { (l : Layout) → CanBeLaidOut l → IsLaidOut l.version (layout_bytes l) }
+    ensures written { (version : ℕ) (bytes : List ℕ) → version < 2 ^ 32 → IsBytes bytes → IsLaidOut version bytes → layout_bytes (layout_in bytes) ≡ bytes }
+    ensures can { (version : ℕ) (bytes : List ℕ) → version < 2 ^ 32 → IsBytes bytes → IsLaidOut version bytes → CanBeLaidOut (layout_in bytes) }
+    ensures size { (l : Layout) → length (layout_bytes l) ≡ file_size l }
 {}
