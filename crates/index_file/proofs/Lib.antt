@@ -1,0 +1,13 @@
+pub mod Ascending
+pub mod Examples
+pub mod FamilyLaws
+pub mod GroupLaws
+pub mod ImageLaws
+pub mod LayoutLaws
+pub mod LookUpLaws
+pub mod NamingLaws
+pub mod ReadingLaws
+pub mod SlicePairLaws
+pub mod StoredLaws
+pub mod TermGroupLaws
+pub mod WritingLaws

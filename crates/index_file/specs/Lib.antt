@@ -1,0 +1,5 @@
+pub mod Families
+pub mod Layout
+pub mod Image
+pub mod Conditions
+pub mod LaidOut
