@@ -9,10 +9,10 @@ use Rattle.run_rows.specs.Encoding.{run_bytes, row_bytes, runs_in, row_numbers}
 use Rattle.cube_slices.specs.Slices.{slice_bytes, slice_lines}
 use Rattle.bm_term.specs.declared.triple.Triple.{Triple}
 use Rattle.term_numbers.specs.Numbering.{numbering_of, term_table}
-use Rattle.index_file.specs.Families.{pairs_in as pairs_of_slice, slices_of}
-use Rattle.index_file.specs.Layout.{Layout, name, layout_bytes, layout_in}
-use Rattle.index_file.specs.Image.{image_of, graph_in, layout_of}
-use Rattle.index_file.specs.declared.family.Family.TheVariants.{So, Os, Ps, Po}
+use Rattle.index_file.specs.Families.{slices_of}
+use Rattle.index_file.specs.Layout.{name, layout_bytes, layout_in}
+use Rattle.index_file.specs.Image.{image_of, graph_in}
+use Rattle.index_file.specs.declared.family.Family.TheVariants.{Po}
 
 -- ---- the empty graph
 

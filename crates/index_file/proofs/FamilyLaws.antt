@@ -1,5 +1,5 @@
 -- Laws of families: a set of numbered triples and its slices determine each other.
-use Rattle.std.proofs.Common.{◌≡◌, ◌↔◌, ◌==◌, ℕ, zero, suc, ◌+◌, ◌<◌, ◌≤◌, ◌⊎◌, inl, inr, List, [], ◌∷◌, ◌++◌, length, get_or, map, filter, Contains, refl, sym, ap, ◌∙◌, subst, arith, add-zero, zero-add}
+use Rattle.std.proofs.Common.{◌≡◌, ◌↔◌, ◌==◌, ℕ, zero, suc, ◌+◌, ◌<◌, ◌≤◌, ◌⊎◌, inl, inr, List, [], ◌∷◌, length, get_or, map, filter, Contains, refl, sym, ap, ◌∙◌, subst, arith, add-zero}
 use Rattle.std.proofs.lemmas.Bool.{cases_eq, eqb-true, eq-eqb}
 use Rattle.std.proofs.lemmas.Bool.Decides.{nat_tests}
 use Rattle.std.proofs.lemmas.Cmp.{tied_itself}
@@ -15,7 +15,7 @@ use Rattle.term_numbers.specs.Order.{Numbered}
 use Rattle.term_numbers.proofs.Ascending.{set_of-is, same_members}
 use Rattle.term_numbers.proofs.EntryLaws.{Contains-filter, filter-Contains}
 use Rattle.term_numbers.proofs.NumberingLaws.{from_map, Contains-map}
-use Rattle.index_file.proofs.Ascending.{all_from_members, member_of_all, ascends-append, has_all, length_of_same}
+use Rattle.index_file.proofs.Ascending.{all_from_members, member_of_all, ascends-append}
 use Rattle.index_file.specs.Families.{slice_number, pair_of, triple_at, pair_cmp, pairs_in, slices_of, triples_from}
 use Rattle.index_file.specs.declared.family.Family.{Family}
 use Rattle.index_file.specs.declared.family.Family.TheVariants.{So, Os, Ps, Po}
@@ -67,7 +67,8 @@ family_cmp-exact f t u tie =
     let pair = pair_cmp-exact (pair_of f t) (pair_of f u) both.1 in
     sym (triple_again f t) ∙ (λ i. triple_at f (slice i) (pair i)) ∙ triple_again f u
 
-nat_less : (a b : ℕ) → a < b → nat_cmp a b ≡ Less
+-- a number below another compares as less
+pub nat_less : (a b : ℕ) → a < b → nat_cmp a b ≡ Less
 nat_less a b less = grind (arith, nat_tests)
 
 -- ---- from slices to triples
@@ -77,6 +78,7 @@ abbrev pub EachAscends : List (List (ℕ × ℕ)) → Type 0
 EachAscends [] = Unit {0}
 EachAscends (ps ∷ pss) = IsStrictlySortedBy pair_cmp ps × EachAscends pss
 
+-- the list of nothing ascends
 pub nothing_ascends : {X : Type 0} (cmp : X → X → Ordering) → IsStrictlySortedBy cmp []
 unfolding IsStrictlySortedBy
 nothing_ascends cmp = tt
@@ -118,8 +120,8 @@ module _ (f : Family) where
   ascends-map n [] h = tt
   ascends-map n (p ∷ ps) h = (
     all_from_members (λ u. family_cmp f (triple_at f n p) u ≡ Less) (map (triple_at f n) ps) (λ u there.
-    let q = from_map (triple_at f n) ps u there in
-    subst (λ v. family_cmp f (triple_at f n p) v ≡ Less) q.2 (same_order n p q.0 ∙ member_of_all (λ q. pair_cmp p q ≡ Less) ps h.0 q.0 q.1)),
+        let q = from_map (triple_at f n) ps u there in
+        subst (λ v. family_cmp f (triple_at f n p) v ≡ Less) q.2 (same_order n p q.0 ∙ member_of_all (λ q. pair_cmp p q ≡ Less) ps h.0 q.0 q.1)),
     ascends-map n ps h.1,
   )
 

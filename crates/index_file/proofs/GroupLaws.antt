@@ -1,11 +1,10 @@
 -- Laws of the groups of a layout: the texts are the four groups of terms in a row, and the slices are the four families.
-use Rattle.std.proofs.Common.{◌≡◌, ℕ, ◌+◌, ◌*◌, List, ◌++◌, length, take, drop, refl, sym, ap, ◌∙◌, arith, length-append}
+use Rattle.std.proofs.Common.{◌≡◌, ℕ, ◌+◌, ◌*◌, List, ◌++◌, length, take, drop, sym, ap, ◌∙◌, arith, length-append}
 use Rattle.std.proofs.lemmas.List.{length-take, length-drop, take_at, drop_at, take-append-drop, drop-drop}
 use Rattle.term_numbers.specs.Numbering.{Terms, all_subjects, all_objects, term_table}
 use Rattle.index_file.specs.LaidOut.{CanBeLaidOut}
 use Rattle.index_file.specs.Layout.{Layout}
 use Rattle.index_file.specs.Image.{slices_for, terms_in, group_in}
-use Rattle.index_file.specs.Conditions.{rows_for, columns_for}
 use Rattle.index_file.specs.declared.family.Family.{Family}
 use Rattle.index_file.specs.declared.family.Family.TheVariants.{So, Os, Ps, Po}
 

@@ -1,5 +1,5 @@
 -- The laws of images: the conditions hold of images alone, an image is of one graph, and no front of one is another.
-use Rattle.std.proofs.Common.{◌≡◌, ◌↔◌, ℕ, zero, ◌+◌, ◌^◌, ◌<◌, ◌≤◌, List, [], ◌++◌, length, map, Contains, refl, sym, ap, ◌∙◌, subst, arith}
+use Rattle.std.proofs.Common.{◌≡◌, ◌↔◌, ℕ, ◌^◌, ◌<◌, List, [], ◌++◌, length, map, Contains, sym, ap, ◌∙◌, subst, arith}
 use Rattle.std.proofs.lemmas.List.{length-map}
 use Rattle.bm_term.specs.Graph.{triple_cmp}
 use Rattle.bm_term.specs.declared.triple.Triple.{Triple}
@@ -15,10 +15,10 @@ use Rattle.index_file.proofs.LayoutLaws.{length-layout_bytes, IsReadWhole-laid_o
 use Rattle.index_file.proofs.ReadingLaws.{IsRead-index, laid_out, all_used, image_of-graph_in, slice_there}
 use Rattle.index_file.proofs.StoredLaws.{All-rdf}
 use Rattle.index_file.proofs.WritingLaws.{IsIndex-image_of, graph_in-image_of}
-use Rattle.index_file.specs.Conditions.{LengthsAgree, IsIndex, IsStorable, IsImageOf}
+use Rattle.index_file.specs.Conditions.{IsIndex, IsStorable, IsImageOf}
 use Rattle.index_file.specs.Families.{slice_number, pair_of, slices_of, triples_from}
-use Rattle.index_file.specs.Image.{image_of, terms_in, triples_in, graph_in}
-use Rattle.index_file.specs.Layout.{file_size, layout_bytes, layout_in}
+use Rattle.index_file.specs.Image.{terms_in, triples_in, graph_in}
+use Rattle.index_file.specs.Layout.{file_size, layout_in}
 use Rattle.index_file.specs.declared.family.Family.{Family}
 use Rattle.index_file.specs.declared.family.Family.TheVariants.{So}
 

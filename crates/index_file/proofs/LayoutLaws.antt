@@ -2,11 +2,11 @@
 use Rattle.std.proofs.Common.{◌≡◌, ℕ, zero, suc, ◌+◌, ◌*◌, ◌^◌, ◌<◌, ◌≤◌, List, [], ◌∷◌, ◌++◌, length, take, drop, slice_index, refl, sym, ap, ◌∙◌, subst, arith, length-append}
 use Rattle.std.proofs.lemmas.List.{length-take, length-drop, take_at, drop_at, take-append-drop, take-append-le, drop-append-le, nil_from_length}
 use Rattle.byte_tables.specs.Numbers.{number_bytes, numbers_in, AllFit32, IsBytes}
-use Rattle.byte_tables.specs.Pieces.{joined, ends_from, starts_of, pieces_at, CutWhole, HaveBytes}
+use Rattle.byte_tables.specs.Pieces.{joined, ends_from, starts_of, pieces_at, CutWhole}
 use Rattle.byte_tables.proofs.NumberLaws.{IsBytes-take, IsBytes-drop, numbers_in-number_bytes, length-number_bytes, ReadWhole, ReadWhole-bytes}
 use Rattle.byte_tables.proofs.PieceLaws.{pieces_at-starts_of, CutWhole-starts_of, length-starts_of, IsTable, IsTable-cut}
 use Rattle.index_file.specs.Layout.{Layout, name, size_for, file_size, head_numbers, layout_bytes, head_in, field, text_count, slice_count, after_head, text_starts, after_starts, text_part, after_texts, slice_starts, slice_part, layout_in}
-use Rattle.index_file.specs.Conditions.{most_triples, HeaderIsKnown, LengthsAgree}
+use Rattle.index_file.specs.Conditions.{most_triples, LengthsAgree}
 use Rattle.index_file.specs.LaidOut.{CanBeLaidOut, IsLaidOut}
 
 -- ---- from a layout to bytes

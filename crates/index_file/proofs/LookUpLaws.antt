@@ -1,11 +1,13 @@
 -- Which look-ups tell that the families agree, where they have equally many triples.
-use Rattle.std.proofs.Common.{◌≡◌, ◌↔◌, ℕ, ◌≤◌, List, length, map, Contains, refl, sym, arith}
+use Rattle.std.proofs.Common.{◌↔◌, All, Contains, arith}
 use Rattle.std.specs.List.Sorted.{IsStrictlySortedBy}
 use Rattle.run_rows.specs.declared.form.RowForm.{RowForm}
 use Rattle.term_numbers.specs.Order.{Numbered}
 use Rattle.index_file.proofs.Ascending.{has_all}
 use Rattle.index_file.proofs.FamilyLaws.{family_cmp, family_cmp-total, family_cmp-exact}
-use Rattle.index_file.specs.Conditions.{CountsAgree, FamiliesAgree}
+use Rattle.byte_tables.specs.Numbers.{IsBytes}
+use Rattle.index_file.proofs.ReadingLaws.{triples_ascend}
+use Rattle.index_file.specs.Conditions.{RowsAreEncodings, CountsAgree, FamiliesAgree}
 use Rattle.index_file.specs.Image.{triples_in}
 use Rattle.index_file.specs.Layout.{Layout}
 use Rattle.index_file.specs.declared.family.Family.{Family}
@@ -28,17 +30,17 @@ stand_back form l f g ascends counts stand t there =
     has_all (family_cmp f) (family_cmp-total f) (family_cmp-exact f) (triples_in form l f) (triples_in form l g) ascends stand (omega (arith, counts f, counts g)) t there
 
 -- with equal counts the three look-ups tell whether the families agree
-pub agreement_by_look_ups : (form : RowForm) (l : Layout) → ((f : Family) → IsStrictlySortedBy (family_cmp f) (triples_in form l f)) → CountsAgree form l → FamiliesAgree form l ↔ LookUpsAgree form l
-agreement_by_look_ups form l ascends counts = (
+pub agreement_by_look_ups : (form : RowForm) (l : Layout) → All IsBytes l.slices → RowsAreEncodings form l → CountsAgree form l → FamiliesAgree form l ↔ LookUpsAgree form l
+agreement_by_look_ups form l bytes rows counts = (
   λ agree. record {
     so_in_ps = agree Ps;
-    os_in_ps = λ t there. agree Ps t (stand_back form l So Os (ascends So) counts (agree Os) t there);
+    os_in_ps = λ t there. agree Ps t (stand_back form l So Os (triples_ascend form l bytes rows So) counts (agree Os) t there);
     so_in_po = agree Po;
   },
   λ look_ups.
-      let ps_in_so = stand_back form l So Ps (ascends So) counts look_ups.so_in_ps in
+      let ps_in_so = stand_back form l So Ps (triples_ascend form l bytes rows So) counts look_ups.so_in_ps in
       let os_in_so : StandIn form l Os So = λ t there. ps_in_so t (look_ups.os_in_ps t there) in
-      by look_ups (stand_back form l Os So (ascends Os) counts os_in_so),
+      by look_ups (stand_back form l Os So (triples_ascend form l bytes rows Os) counts os_in_so),
 )
   where
     by : LookUpsAgree form l → StandIn form l So Os → FamiliesAgree form l

@@ -1,5 +1,5 @@
 -- From ordered terms and numbered triples that use them all, the graph that they name has just that numbering.
-use Rattle.std.proofs.Common.{◌≡◌, ◌↔◌, ℕ, zero, suc, ◌+◌, ◌<◌, ◌≤◌, ◌⊎◌, inl, inr, Bool, true, false, cond, not, ◌||◌, bytes_eq, List, [], ◌∷◌, ◌++◌, length, get_or, map, filter, Contains, refl, sym, ap, ◌∙◌, subst, arith, true≢false}
+use Rattle.std.proofs.Common.{◌≡◌, ◌↔◌, ℕ, zero, suc, ◌+◌, ◌<◌, ◌⊎◌, inl, inr, Bool, true, false, cond, not, ◌||◌, bytes_eq, List, [], ◌∷◌, ◌++◌, length, get_or, map, filter, Contains, refl, sym, ap, ◌∙◌, subst, arith, true≢false}
 use Rattle.std.proofs.lemmas.List.Elements.{Contains-get_or, Contains-append_cases, Contains-append_left, Contains-append_right}
 use Rattle.std.proofs.lemmas.List.{get_or_default}
 use Rattle.std.proofs.lemmas.List.Kept.{IsStrictlySortedBy-filter}
@@ -9,10 +9,10 @@ use Rattle.std.specs.declared.cmp.Ordering.TheVariants.{Less}
 use Rattle.bm_term.specs.Graph.{triple_cmp, graph_of}
 use Rattle.bm_term.specs.SetOf.{set_of}
 use Rattle.bm_term.specs.declared.triple.Triple.{Triple}
-use Rattle.bm_term.proofs.Elements.{Contains-head, Contains-tail, Contains-cons_cases, Contains-nil}
+use Rattle.bm_term.proofs.Elements.{Contains-head, Contains-tail}
 use Rattle.bm_term.proofs.TripleOrder.{triple_cmp-total, triple_cmp-exact}
 use Rattle.term_numbers.specs.Order.{text_cmp, Numbered, number_cmp}
-use Rattle.term_numbers.specs.Numbering.{Terms, Numbering, subject_texts, predicate_texts, object_texts, is_among, terms_of, all_subjects, all_objects, place_of, numbers_in, named, numbering_of}
+use Rattle.term_numbers.specs.Numbering.{Terms, subject_texts, predicate_texts, object_texts, is_among, terms_of, all_subjects, all_objects, place_of, numbers_in, named, numbering_of}
 use Rattle.term_numbers.proofs.Ascending.{text_cmp-total, text_cmp-exact, number_cmp-total, number_cmp-exact, set_of-is, set_of-same, same_members}
 use Rattle.term_numbers.proofs.EntryLaws.{Contains-filter, filter-Contains}
 use Rattle.term_numbers.proofs.NumberingLaws.{from_map, Contains-map, among, among_from, not_among, bytes_eq-itself}

@@ -1,5 +1,5 @@
 -- Bytes of which the conditions hold are the image of the graph that they stand for.
-use Rattle.std.proofs.Common.{◌≡◌, ◌↔◌, ℕ, ◌+◌, ◌*◌, ◌^◌, ◌<◌, ◌≤◌, ◌⊎◌, inl, inr, List, [], ◌∷◌, ◌++◌, length, get_or, take, drop, map, All, Contains, refl, sym, ap, ◌∙◌, subst, arith}
+use Rattle.std.proofs.Common.{◌≡◌, ℕ, ◌+◌, ◌*◌, ◌^◌, ◌<◌, ◌≤◌, ◌⊎◌, inl, inr, List, [], ◌++◌, length, get_or, drop, map, All, Contains, refl, sym, ap, ◌∙◌, subst, arith}
 use Rattle.std.proofs.lemmas.Bool.{cases_lt}
 use Rattle.std.proofs.lemmas.List.{length-map, map-append, get_or_past}
 use Rattle.std.proofs.lemmas.List.Elements.{All-take, All-drop}
@@ -10,20 +10,20 @@ use Rattle.byte_tables.specs.Numbers.{IsBytes}
 use Rattle.byte_tables.proofs.NumberLaws.{IsBytes-drop}
 use Rattle.run_rows.specs.declared.form.RowForm.{RowForm}
 use Rattle.term_numbers.specs.Order.{Numbered, number_cmp}
-use Rattle.term_numbers.specs.Numbering.{Terms, Numbering, all_subjects, all_objects, term_table, named, numbering_of}
+use Rattle.term_numbers.specs.Numbering.{Terms, Numbering, numbering_of}
 use Rattle.term_numbers.proofs.Ascending.{number_cmp-total, number_cmp-exact, set_of-is}
 use Rattle.term_numbers.proofs.NumberLaws.{length-set_of}
 use Rattle.index_file.proofs.Ascending.{has_all, length_of_same}
-use Rattle.index_file.proofs.FamilyLaws.{family_cmp, family_cmp-total, family_cmp-exact, pair_of_triple, triple_of_pair, ascends-triples_from, slices_of-same, slice_again, pair_again}
+use Rattle.index_file.proofs.FamilyLaws.{family_cmp, family_cmp-total, family_cmp-exact, pair_of_triple, triple_of_pair, ascends-triples_from, slices_of-same, slice_again}
 use Rattle.index_file.proofs.GroupLaws.{term_table-terms_in, slices-group_in, TermCounts, TermCounts-terms_in, length-all_subjects, length-all_objects, length-group_in}
-use Rattle.index_file.proofs.LayoutLaws.{IsReadWhole, IsReadWhole-laid_out}
+use Rattle.index_file.proofs.LayoutLaws.{IsReadWhole-laid_out}
 use Rattle.index_file.specs.LaidOut.{CanBeLaidOut, IsLaidOut}
 use Rattle.index_file.proofs.NamingLaws.{UseAll, graph_named, numbering_of-graph_named}
 use Rattle.index_file.proofs.SlicePairLaws.{AreRead, AreRead-slices, bytes_of_pieces}
-use Rattle.index_file.specs.Families.{slice_number, pair_of, triple_at, slices_of, triples_from}
+use Rattle.index_file.specs.Families.{slice_number, pair_of, triple_at, slices_of}
 use Rattle.index_file.specs.Layout.{Layout, field, text_count, slice_count, after_head, after_starts, after_texts, slice_part, slice_starts, layout_bytes, layout_in}
 use Rattle.index_file.specs.Image.{slices_for, family_pairs, all_pairs, pair_slice, layout_of, image_of, terms_in, group_in, slice_pairs, triples_in, graph_in}
-use Rattle.index_file.specs.Conditions.{AreOrdered, rows_for, columns_for, AreSlices, RowsAreEncodings, CountsAgree, FamiliesAgree, IsIndex}
+use Rattle.index_file.specs.Conditions.{AreOrdered, rows_for, columns_for, RowsAreEncodings, CountsAgree, FamiliesAgree, IsIndex}
 use Rattle.index_file.specs.declared.family.Family.{Family}
 use Rattle.index_file.specs.declared.family.Family.TheVariants.{So, Os, Ps, Po}
 
@@ -44,6 +44,21 @@ slice_there xss k x there = by (cases_lt k (length xss))
     by (inl low) = low
     by (inr past) = absurd (Contains-nil x (subst (λ l. Contains l x) (get_or_past xss k [] past) there))
 
+module _ (form : RowForm) (l : Layout) (bytes : All IsBytes l.slices) (rows : RowsAreEncodings form l) where
+  group_bytes : (f : Family) → All IsBytes (group_in l f)
+  group_bytes So = All-take IsBytes l.predicates l.slices bytes
+  group_bytes Os = All-take IsBytes l.predicates (drop l.predicates l.slices) (All-drop IsBytes l.predicates l.slices bytes)
+  group_bytes Ps = All-take IsBytes (l.shared + l.objects) (drop (2 * l.predicates) l.slices) (All-drop IsBytes (2 * l.predicates) l.slices bytes)
+  group_bytes Po = All-drop IsBytes (2 * l.predicates + (l.shared + l.objects)) l.slices bytes
+
+  -- the pairs of a family
+  pub group_read : (f : Family) → AreRead form (rows_for l f) (columns_for l f) (group_in l f)
+  group_read f = AreRead-slices form (rows_for l f) (columns_for l f) (group_in l f) (group_bytes f) (rows f)
+
+  -- its triples ascend
+  pub triples_ascend : (f : Family) → IsStrictlySortedBy (family_cmp f) (triples_in form l f)
+  triples_ascend f = ascends-triples_from f 0 (map (slice_pairs form) (group_in l f)) (group_read f).ascend
+
 module _ (form : RowForm) (l : Layout) (read : IsRead form l) where
   abbrev terms : Terms
   terms = terms_in l
@@ -58,20 +73,14 @@ module _ (form : RowForm) (l : Layout) (read : IsRead form l) where
   counted : TermCounts terms l
   counted = TermCounts-terms_in l read.can
 
-  group_bytes : (f : Family) → All IsBytes (group_in l f)
-  group_bytes So = All-take IsBytes l.predicates l.slices read.bytes
-  group_bytes Os = All-take IsBytes l.predicates (drop l.predicates l.slices) (All-drop IsBytes l.predicates l.slices read.bytes)
-  group_bytes Ps = All-take IsBytes (l.shared + l.objects) (drop (2 * l.predicates) l.slices) (All-drop IsBytes (2 * l.predicates) l.slices read.bytes)
-  group_bytes Po = All-drop IsBytes (2 * l.predicates + (l.shared + l.objects)) l.slices read.bytes
-
   pairs_read : (f : Family) → AreRead form (rows_for l f) (columns_for l f) (group_in l f)
-  pairs_read f = AreRead-slices form (rows_for l f) (columns_for l f) (group_in l f) (group_bytes f) (read.rows f)
+  pairs_read f = group_read form l read.bytes read.rows f
 
   as_many_slices : (f : Family) → length (pairs f) ≡ slices_for f terms
   as_many_slices f = length-map (group_in l f) (slice_pairs form) ∙ length-group_in l read.can terms counted f
 
   first_ascends : IsStrictlySortedBy (family_cmp So) first
-  first_ascends = ascends-triples_from So 0 (pairs So) (pairs_read So).ascend
+  first_ascends = triples_ascend form l read.bytes read.rows So
 
   -- each family has the triples of the first, and no more
   no_more : (f : Family) (t : Numbered) → Contains (triples_in form l f) t → Contains first t
@@ -152,7 +161,8 @@ module _ (form : RowForm) (l : Layout) (read : IsRead form l) where
 
 -- ---- of bytes
 
-slices_are_bytes : (bytes : List ℕ) → IsBytes bytes → All IsBytes (layout_in bytes).slices
+-- slices of bytes are bytes
+pub slices_are_bytes : (bytes : List ℕ) → IsBytes bytes → All IsBytes (layout_in bytes).slices
 unfolding layout_in
 slices_are_bytes bytes fits =
     bytes_of_pieces (slice_starts bytes) (slice_part bytes)

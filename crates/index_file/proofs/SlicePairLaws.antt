@@ -1,13 +1,11 @@
 -- Laws of the slices of a family: the bytes of slices, and the pairs that they stand for, determine each other.
-use Rattle.std.proofs.Common.{◌≡◌, ◌↔◌, ℕ, zero, suc, ◌+◌, ◌-◌, ◌*◌, ◌^◌, ◌<◌, ◌≤◌, ◌⊎◌, inl, inr, List, [], ◌∷◌, ◌++◌, length, get_or, take, drop, map, All, Contains, refl, sym, ap, ◌∙◌, subst, arith, length-append}
+use Rattle.std.proofs.Common.{◌≡◌, ℕ, zero, suc, ◌+◌, ◌-◌, ◌^◌, ◌<◌, ◌≤◌, ◌⊎◌, inl, inr, List, [], ◌∷◌, ◌++◌, length, get_or, take, drop, map, All, Contains, refl, sym, ap, ◌∙◌, subst, arith, length-append}
 use Rattle.std.proofs.lemmas.Bool.Decides.{nat_tests}
 use Rattle.std.proofs.lemmas.Cmp.{tied_itself}
-use Rattle.std.proofs.lemmas.List.{length-map}
-use Rattle.std.proofs.lemmas.List.Elements.{All-cons, All-head, All-tail, All-nil, All-contains, Contains-append_cases, Contains-append_left}
+use Rattle.std.proofs.lemmas.List.Elements.{All-cons, All-head, All-tail, All-nil, All-contains, Contains-append_cases}
 use Rattle.std.specs.Cmp.{nat_cmp_total}
 use Rattle.std.specs.List.{flat_map, AllByRecursion}
 use Rattle.std.specs.List.Sorted.{IsStrictlySortedBy}
-use Rattle.std.specs.Int.{w32, to_le_bytes}
 use Rattle.std.specs.Ordering.{nat_cmp, ordering_then}
 use Rattle.std.specs.declared.cmp.Ordering.{Ordering}
 use Rattle.std.specs.declared.cmp.Ordering.TheVariants.{Less, Equal, Greater}
@@ -17,16 +15,16 @@ use Rattle.byte_tables.specs.Pairs.{pair_bytes}
 use Rattle.byte_tables.specs.Pieces.{joined, cut_from, pieces_at, HaveBytes}
 use Rattle.byte_tables.proofs.NumberLaws.{IsBytes-take, IsBytes-drop}
 use Rattle.run_rows.specs.declared.form.RowForm.{RowForm}
-use Rattle.run_rows.specs.Row.{AscendsWithin, IsRow}
+use Rattle.run_rows.specs.Row.{AscendsWithin}
 use Rattle.run_rows.proofs.RowLaws.{All-ascending}
 use Rattle.cube_slices.specs.Lines.{Line, LinesAscend, AreLines, pairs_of_line, pairs_of}
 use Rattle.cube_slices.specs.Pairs.{ComesBefore, ComesFirst, PairsAscend, ArePairs, lines_of}
-use Rattle.cube_slices.specs.Slices.{bytes_of_lines, entries_of, slice_bytes, slice_lines, IsSlice, EncodesLines}
+use Rattle.cube_slices.specs.Slices.{bytes_of_lines, entries_of, slice_bytes, slice_lines}
 use Rattle.cube_slices.proofs.PairLaws.{pairs_of-lines_of, lines_of-pairs_of, AreLines-lines_of}
 use Rattle.cube_slices.proofs.SliceLaws.{slice_lines-slice_bytes, IsSlice-slice_bytes, EncodesLines-slice}
 use Rattle.term_numbers.proofs.NumberingLaws.{from_map}
-use Rattle.index_file.proofs.Ascending.{all_from_members, member_of_all, ascends-append}
-use Rattle.index_file.proofs.FamilyLaws.{EachAscends, nothing_ascends}
+use Rattle.index_file.proofs.Ascending.{all_from_members, ascends-append}
+use Rattle.index_file.proofs.FamilyLaws.{EachAscends, nothing_ascends, nat_less}
 use Rattle.index_file.specs.Families.{pair_cmp}
 use Rattle.index_file.specs.Image.{pair_slice, slice_pairs}
 use Rattle.index_file.specs.Conditions.{AreSlices}
@@ -48,9 +46,6 @@ pair_within low rows columns (l ∷ ls) p ascend there =
         (omega (arith, ascend.0), omega (arith, ascend.1), omega (arith, bound.1))
     by later (inr rest) = let found = later rest in (omega (arith, ascend.0, found.0), found.1, found.2)
 
-nat_less : (a b : ℕ) → a < b → nat_cmp a b ≡ Less
-nat_less a b less = grind (arith, nat_tests)
-
 before_by_row : (p q : ℕ × ℕ) → p.0 < q.0 → pair_cmp p q ≡ Less
 before_by_row p q less = ap (λ r. ordering_then r (nat_cmp p.1 q.1)) (nat_less p.0 q.0 less)
 
@@ -63,9 +58,9 @@ unfolding IsStrictlySortedBy
 ascends-row n low columns [] ascends = tt
 ascends-row n low columns (x ∷ xs) ascends = (
   all_from_members (λ q. pair_cmp (n, x) q ≡ Less) (map {B = ℕ × ℕ} (λ c. (n, c)) xs) (λ q there.
-  let c = from_map {Y = ℕ × ℕ} (λ c. (n, c)) xs q there in
-  let bound = All-contains (λ y. (x + 1 ≤ y) × (y < columns)) xs c.0 (All-ascending (x + 1) columns xs ascends.2) c.1 in
-  subst (λ r. pair_cmp (n, x) r ≡ Less) c.2 (before_by_column n x c.0 (omega (arith, bound.0)))),
+      let c = from_map {Y = ℕ × ℕ} (λ c. (n, c)) xs q there in
+      let bound = All-contains (λ y. (x + 1 ≤ y) × (y < columns)) xs c.0 (All-ascending (x + 1) columns xs ascends.2) c.1 in
+      subst (λ r. pair_cmp (n, x) r ≡ Less) c.2 (before_by_column n x c.0 (omega (arith, bound.0)))),
   ascends-row n (x + 1) columns xs ascends.2,
 )
 

@@ -1,19 +1,15 @@
 -- The terms of a graph of RDF triples have their kinds of texts, and triples that are named by such terms are triples of RDF.
-use Rattle.std.proofs.Common.{◌≡◌, ◌↔◌, ℕ, ◌+◌, ◌^◌, ◌<◌, ◌≤◌, ◌⊎◌, inl, inr, Bool, not, List, [], ◌∷◌, ◌++◌, length, map, filter, All, Contains, refl, sym, ap, ◌∙◌, subst, arith, length-append}
-use Rattle.std.proofs.lemmas.List.{length-map}
+use Rattle.std.proofs.Common.{ℕ, ◌<◌, inl, inr, not, List, [], ◌∷◌, ◌++◌, length, map, All, Contains, sym, subst, arith}
 use Rattle.std.proofs.lemmas.List.Elements.{All-append, All-get_or, All-contains, All-filter, All-from_recursion}
-use Rattle.std.specs.Str.{encode_utf8_all}
 use Rattle.bm_term.specs.Canonical.{RdfTerm, iri, blank, plain, tagged, typed, canonical_text, IsCanonical, IsTextOf}
-use Rattle.bm_term.specs.Graph.{triple_cmp, graph_of}
 use Rattle.bm_term.specs.SetOf.{set_of}
 use Rattle.bm_term.specs.Triple.{IsNode, IsRdfTriple}
 use Rattle.bm_term.specs.declared.term_parts.TermKind.TheVariants.{Iri}
 use Rattle.bm_term.specs.declared.triple.Triple.{Triple}
 use Rattle.bm_term.proofs.Elements.{Contains-head, Contains-tail}
-use Rattle.bm_term.proofs.TripleOrder.{triple_cmp-total, triple_cmp-exact}
 use Rattle.byte_tables.specs.Pieces.{HaveBytes}
 use Rattle.term_numbers.specs.Order.{text_cmp, Numbered}
-use Rattle.term_numbers.specs.Numbering.{Terms, subject_texts, predicate_texts, object_texts, is_among, terms_of, all_subjects, all_objects, term_table, named}
+use Rattle.term_numbers.specs.Numbering.{Terms, subject_texts, object_texts, is_among, terms_of, all_subjects, all_objects, term_table, named}
 use Rattle.term_numbers.proofs.Ascending.{text_cmp-total, text_cmp-exact, set_of-is}
 use Rattle.term_numbers.proofs.NumberingLaws.{from_map}
 use Rattle.index_file.proofs.Ascending.{all_from_members}

@@ -1,15 +1,14 @@
 -- The conditions hold of the image of a graph, and the bytes stand for that graph.
-use Rattle.std.proofs.Common.{◌≡◌, ◌↔◌, ℕ, ◌+◌, ◌*◌, ◌^◌, ◌<◌, ◌≤◌, List, [], ◌∷◌, ◌++◌, length, get_or, map, Contains, refl, sym, ap, ◌∙◌, subst, arith, length-append, append_assoc}
+use Rattle.std.proofs.Common.{◌≡◌, ℕ, ◌+◌, ◌^◌, ◌<◌, List, [], ◌∷◌, ◌++◌, length, get_or, map, Contains, refl, sym, ap, ◌∙◌, subst, arith, length-append}
 use Rattle.std.proofs.lemmas.List.{length-map, map-append}
 use Rattle.std.specs.List.Sorted.{IsStrictlySortedBy}
-use Rattle.bm_term.specs.Graph.{triple_cmp, graph_of}
-use Rattle.bm_term.specs.Triple.{IsRdfTriple}
+use Rattle.bm_term.specs.Graph.{triple_cmp}
 use Rattle.bm_term.specs.declared.triple.Triple.{Triple}
 use Rattle.bm_term.proofs.TripleOrder.{triple_cmp-total, triple_cmp-exact}
 use Rattle.byte_tables.specs.Pieces.{joined}
 use Rattle.run_rows.specs.declared.form.RowForm.{RowForm}
 use Rattle.term_numbers.specs.Order.{Numbered, number_cmp}
-use Rattle.term_numbers.specs.Numbering.{Terms, Numbering, terms_of, all_subjects, all_objects, term_table, named, numbers_in, numbering_of}
+use Rattle.term_numbers.specs.Numbering.{Numbering, terms_of, named, numbers_in, numbering_of}
 use Rattle.term_numbers.proofs.Ascending.{number_cmp-total, number_cmp-exact, set_of-is, set_of-same}
 use Rattle.term_numbers.proofs.NumberLaws.{as_many}
 use Rattle.term_numbers.proofs.NumberingLaws.{map-same}
@@ -22,10 +21,10 @@ use Rattle.index_file.proofs.NamingLaws.{UseAll, graph_named}
 use Rattle.index_file.proofs.SlicePairLaws.{AreFull, AreWritten, AreWritten-pairs, HaveBytes-slices}
 use Rattle.index_file.proofs.StoredLaws.{AreCanonical-terms_of, HaveBytes-terms}
 use Rattle.index_file.proofs.TermGroupLaws.{AreOrdered-terms_of, UseAll-numbering_of, graph_named-numbering_of}
-use Rattle.index_file.specs.Families.{slice_number, pair_of, triple_at, slices_of, triples_from}
-use Rattle.index_file.specs.Layout.{Layout, file_size, layout_bytes, layout_in}
+use Rattle.index_file.specs.Families.{slice_number, pair_of, triple_at, triples_from}
+use Rattle.index_file.specs.Layout.{Layout, layout_bytes, layout_in}
 use Rattle.index_file.specs.Image.{slices_for, family_pairs, all_pairs, pair_slice, layout_of, image_of, terms_in, group_in, slice_pairs, triples_in, graph_in}
-use Rattle.index_file.specs.Conditions.{most_triples, AreCanonical, AreOrdered, rows_for, columns_for, AreSlices, RowsAreEncodings, CountsAgree, FamiliesAgree, IsIndex, IsStorable}
+use Rattle.index_file.specs.Conditions.{AreCanonical, AreOrdered, rows_for, columns_for, AreSlices, RowsAreEncodings, CountsAgree, FamiliesAgree, IsIndex, IsStorable}
 use Rattle.index_file.specs.declared.family.Family.{Family}
 use Rattle.index_file.specs.declared.family.Family.TheVariants.{So, Os, Ps, Po}
 

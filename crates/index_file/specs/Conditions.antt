@@ -1,5 +1,5 @@
 -- The conditions under which bytes are an image, each named by the part of the file that it is on.
-use Rattle.std.specs.Prelude.{◌≡◌, ℕ, ◌+◌, ◌^◌, ◌<◌, ◌≤◌, ◌⊎◌, List, [], ◌∷◌, ◌++◌, length, take, All, Contains}
+use Rattle.std.specs.Prelude.{◌≡◌, ℕ, ◌+◌, ◌^◌, ◌<◌, ◌≤◌, List, [], ◌∷◌, ◌++◌, length, take, All, Contains}
 use Rattle.std.specs.List.Sorted.{IsStrictlySortedBy}
 use Rattle.bm_term.specs.Canonical.{IsCanonical, IsTextOf}
 use Rattle.bm_term.specs.Graph.{triple_cmp}

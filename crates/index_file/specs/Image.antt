@@ -1,5 +1,5 @@
 -- The image of a graph: its terms as the texts of the file, and its triples as slices, four times over.
-use Rattle.std.specs.Prelude.{ℕ, ◌+◌, ◌*◌, List, [], ◌∷◌, ◌++◌, length, take, drop, map}
+use Rattle.std.specs.Prelude.{ℕ, ◌+◌, ◌*◌, List, ◌++◌, length, take, drop, map}
 use Rattle.bm_term.specs.Graph.{graph_of}
 use Rattle.bm_term.specs.declared.triple.Triple.{Triple}
 use Rattle.cube_slices.specs.Lines.{pairs_of}

@@ -1,6 +1,6 @@
 -- How the index file is laid out: the name, nine numbers, the starts of the texts, the texts, the starts of the slices, and
 -- the slices. Each number has four bytes, the lowest first, and nothing stands between the parts.
-use Rattle.std.specs.Prelude.{◌≡◌, ℕ, ◌+◌, ◌*◌, List, [], ◌∷◌, ◌++◌, length, take, drop, slice_index, codes}
+use Rattle.std.specs.Prelude.{ℕ, ◌+◌, ◌*◌, List, [], ◌∷◌, ◌++◌, length, take, drop, slice_index, codes}
 use Rattle.byte_tables.specs.Numbers.{number_bytes, numbers_in}
 use Rattle.byte_tables.specs.Pieces.{joined, starts_of, pieces_at}
 
