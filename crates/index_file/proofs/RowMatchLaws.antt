@@ -1,5 +1,5 @@
 -- Whole rows that stand in another family: with equal rows the triples of one stand in the other.
-use Rattle.std.proofs.Common.{◌≡◌, ◌≢◌, ◌↔◌, ℕ, zero, suc, ◌+◌, ◌<◌, ◌≤◌, ◌⊎◌, inl, inr, List, [], ◌∷◌, ◌++◌, Some, None, length, get_or, map, Contains, refl, sym, ap, ◌∙◌, subst, arith}
+use Rattle.std.proofs.Common.{◌≡◌, ◌≢◌, ◌↔◌, ℕ, zero, suc, ◌+◌, ◌≤◌, ◌⊎◌, inl, inr, List, [], ◌∷◌, Some, length, get_or, map, Contains, refl, sym, ap, ◌∙◌, subst, arith}
 use Rattle.std.proofs.lemmas.Bool.{cases_eq}
 use Rattle.std.proofs.lemmas.List.Elements.{Contains-append_cases, Contains-append_left, Contains-append_right}
 use Rattle.std.proofs.lemmas.Map.Keys.{sorted_from_strictly_increasing}
@@ -14,9 +14,9 @@ use Rattle.cube_slices.proofs.LineLaws.{line_of-other, line_of-here}
 use Rattle.term_numbers.specs.Order.{Numbered}
 use Rattle.term_numbers.proofs.Ascending.{same_members}
 use Rattle.term_numbers.proofs.NumberingLaws.{from_map, Contains-map}
-use Rattle.index_file.proofs.FamilyLaws.{triple_of_pair}
+use Rattle.index_file.proofs.FamilyLaws.{triple_of_pair, pair_of_triple, slice_again, pair_again}
 use Rattle.index_file.proofs.SlicePairLaws.{pair_within}
-use Rattle.index_file.specs.Families.{triple_at, triples_from}
+use Rattle.index_file.specs.Families.{pair_of, triple_at, triples_from}
 use Rattle.index_file.specs.declared.family.Family.{Family}
 use Rattle.index_file.specs.steps.Rows.{LinesMatch, RowsMatch}
 
@@ -125,3 +125,70 @@ same_row rows columns tall wide n l ls os ascend other row here same = by l.colu
     by (c ∷ xs) is =
         let s = to c (subst (λ ys. Contains ys c) (sym is) (Contains-head c xs)) in
         whole s.row s.found s.is_row
+
+-- a line that is there is the one of its row
+record LineHere (low columns : ℕ) (ls : List Line) (l : Line) : Type 0 where
+  found : line_of l.row ls ≡ Some l.columns
+  is_row : IsRow columns l.columns
+  low_enough : low ≤ l.row
+
+line_here : (low rows columns : ℕ) (ls : List Line) (l : Line) → LinesAscend low rows columns ls → Contains ls l → LineHere low columns ls l
+line_here low rows columns [] l ascend there = absurd (Contains-nil l there)
+line_here low rows columns (k ∷ ks) l ascend there = by (λ rest. line_here (k.row + 1) rows columns ks l ascend.3 rest) (Contains-cons_cases k ks l there)
+  where
+    by : (Contains ks l → LineHere (k.row + 1) columns ks l) → (k ≡ l) ⊎ Contains ks l → LineHere low columns (k ∷ ks) l
+    by later (inl same) = subst (LineHere low columns (k ∷ ks)) same (record { found = line_of-here k.row k ks refl; is_row = ascend.2; low_enough = ascend.0 })
+    by later (inr rest) =
+        let r = later rest in
+        let above = r.low_enough in
+        let below : low ≤ k.row = ascend.0 in
+        record { found = line_of-other l.row k ks (λ same. omega arith) ∙ r.found; is_row = r.is_row; low_enough = omega arith }
+
+lines_match : (n : ℕ) (others : List (List Line)) (ls : List Line) → ((l : Line) → Contains ls l → line_of n (get_or others l.row []) ≡ Some l.columns) → LinesMatch n others ls
+lines_match n others [] each = tt
+lines_match n others (l ∷ ls) each = (each l (Contains-head l ls), lines_match n others ls (λ k there. each k (Contains-tail l ls k there)))
+
+-- the lines of each slice ascend
+abbrev pub EachLines : ℕ → ℕ → List (List Line) → Type 0
+EachLines rows columns [] = Unit {0}
+EachLines rows columns (ls ∷ lss) = LinesAscend 0 rows columns ls × EachLines rows columns lss
+
+lines_at : (rows columns : ℕ) (lss : List (List Line)) (r : ℕ) → EachLines rows columns lss → LinesAscend 0 rows columns (get_or lss r [])
+lines_at rows columns [] r each = tt
+lines_at rows columns (ls ∷ lss) zero each = each.0
+lines_at rows columns (ls ∷ lss) (suc r) each = lines_at rows columns lss r each.1
+
+match_from_pairs : (rows columns tall wide n : ℕ) (others lss : List (List Line)) → EachLines rows columns lss → EachLines tall wide others
+    → ((k r c : ℕ) → Contains (get_or (map pairs_of lss) k []) (r, c) ↔ Contains (get_or (map pairs_of others) r []) (n + k, c)) → RowsMatch n others lss
+match_from_pairs rows columns tall wide n others [] each other same = tt
+match_from_pairs rows columns tall wide n others (ls ∷ lss) each other same = (
+  lines_match n others ls (λ l there.
+      let here = line_here 0 rows columns ls l each.0 there in
+      same_row rows columns tall wide n l ls (get_or others l.row []) each.0 (lines_at tall wide others l.row other) here.is_row here.found (λ c.
+      let none : n + 0 ≡ n = omega arith in
+      subst (λ m. Contains (pairs_of ls) (l.row, c) ↔ Contains (pairs_of (get_or others l.row [])) (m, c)) none (subst (λ qs. Contains (pairs_of ls) (l.row, c) ↔ Contains qs (n + 0, c)) (pairs_at others l.row) (same 0 l.row c)))),
+  match_from_pairs rows columns tall wide (n + 1) others lss each.1 other (λ k r c.
+      let place : n + suc k ≡ n + 1 + k = omega arith in
+      subst (λ m. Contains (get_or (map pairs_of lss) k []) (r, c) ↔ Contains (get_or (map pairs_of others) r []) (m, c)) place (same (suc k) r c)),
+)
+
+-- a triple of slices is a pair of its slice
+pair_there : (f : Family) (pss : List (List (ℕ × ℕ))) (k : ℕ) (p : ℕ × ℕ) → Contains (triples_from f 0 pss) (triple_at f k p) → Contains (get_or pss k []) p
+pair_there f pss k p there =
+    let found = pair_of_triple f 0 pss (triple_at f k p) there in
+    let place : found.0 ≡ k = omega (arith, found.1, slice_again f k p) in
+    subst (Contains (get_or pss k [])) (pair_again f k p) (subst (λ m. Contains (get_or pss m []) (pair_of f (triple_at f k p))) place found.2)
+
+triple_there : (f : Family) (pss : List (List (ℕ × ℕ))) (k : ℕ) (p : ℕ × ℕ) → Contains (get_or pss k []) p → Contains (triples_from f 0 pss) (triple_at f k p)
+triple_there f pss k p there = let none : 0 + k ≡ k = omega arith in subst (λ m. Contains (triples_from f 0 pss) (triple_at f m p)) none (triple_of_pair f 0 pss k p there)
+
+-- families with the same triples have equal rows
+pub rows_match : (f g : Family) → ((n r c : ℕ) → triple_at f n (r, c) ≡ triple_at g r (n, c)) → (rows columns tall wide : ℕ) (others lss : List (List Line)) → EachLines rows columns lss → EachLines tall wide others
+    → ((t : Numbered) → Contains (triples_from f 0 (map pairs_of lss)) t ↔ Contains (triples_from g 0 (map pairs_of others)) t) → RowsMatch 0 others lss
+rows_match f g swap rows columns tall wide others lss each other same =
+    match_from_pairs rows columns tall wide 0 others lss each other (λ k r c.
+    let none : k ≡ 0 + k = omega arith in
+    subst (λ m. Contains (get_or (map pairs_of lss) k []) (r, c) ↔ Contains (get_or (map pairs_of others) r []) (m, c)) none (
+      λ there. pair_there g (map pairs_of others) r (k, c) (subst (Contains (triples_from g 0 (map pairs_of others))) (swap k r c) ((same (triple_at f k (r, c))).0 (triple_there f (map pairs_of lss) k (r, c) there))),
+      λ there. pair_there f (map pairs_of lss) k (r, c) ((same (triple_at f k (r, c))).1 (subst (Contains (triples_from g 0 (map pairs_of others))) (sym (swap k r c)) (triple_there g (map pairs_of others) r (k, c) there))),
+    ))
