@@ -52,11 +52,11 @@ module _ {X : Type 0} (cmp : X → X → Ordering) (o : IsTotalOrder cmp) (exact
   not_below_itself x less = let tie = tied_itself o x in cc
 
   -- a list that ascends and is within another is no longer, and is the other where that is no longer
-  record IsPart (xs ys : List X) : Type 0 where
+  pub record IsPart (xs ys : List X) : Type 0 where
     pub short : length xs ≤ length ys
     pub whole : length ys ≤ length xs → xs ≡ ys
 
-  part_of_ascending : (xs ys : List X) → IsStrictlySortedBy cmp xs → IsStrictlySortedBy cmp ys → ((x : X) → Contains xs x → Contains ys x) → IsPart xs ys
+  pub part_of_ascending : (xs ys : List X) → IsStrictlySortedBy cmp xs → IsStrictlySortedBy cmp ys → ((x : X) → Contains xs x → Contains ys x) → IsPart xs ys
   unfolding IsStrictlySortedBy
   part_of_ascending [] [] hx hy within = record { short = omega arith; whole = λ _. refl }
   part_of_ascending [] (y ∷ ys) hx hy within = record { short = omega arith; whole = λ le. absurd (omega arith) }

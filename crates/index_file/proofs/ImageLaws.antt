@@ -23,7 +23,7 @@ use Rattle.index_file.specs.declared.family.Family.{Family}
 use Rattle.index_file.specs.declared.family.Family.TheVariants.{So}
 
 -- the graph of bytes of which the conditions hold is within the limits
-IsStorable-graph_in : (version : ℕ) (form : RowForm) (bytes : List ℕ) → version < 2 ^ 32 → IsBytes bytes → IsIndex version form bytes → IsStorable version form (graph_in form bytes)
+pub IsStorable-graph_in : (version : ℕ) (form : RowForm) (bytes : List ℕ) → version < 2 ^ 32 → IsBytes bytes → IsIndex version form bytes → IsStorable version form (graph_in form bytes)
 IsStorable-graph_in version form bytes small fits index =
     let l = layout_in bytes in
     let terms = terms_in l in

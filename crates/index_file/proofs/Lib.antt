@@ -7,6 +7,7 @@ pub mod LayoutLaws
 pub mod LookUpLaws
 pub mod NamingLaws
 pub mod ReadingLaws
+pub mod RowMatchLaws
 pub mod SlicePairLaws
 pub mod StoredLaws
 pub mod TermGroupLaws

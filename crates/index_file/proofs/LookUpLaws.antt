@@ -25,7 +25,7 @@ pub record LookUpsAgree (form : RowForm) (l : Layout) : Type 0 where
   pub so_in_po : StandIn form l So Po
 
 -- what stands in another family, of equally many triples, has all that stand there
-stand_back : (form : RowForm) (l : Layout) (f g : Family) → IsStrictlySortedBy (family_cmp f) (triples_in form l f) → CountsAgree form l → StandIn form l f g → StandIn form l g f
+pub stand_back : (form : RowForm) (l : Layout) (f g : Family) → IsStrictlySortedBy (family_cmp f) (triples_in form l f) → CountsAgree form l → StandIn form l f g → StandIn form l g f
 stand_back form l f g ascends counts stand t there =
     has_all (family_cmp f) (family_cmp-total f) (family_cmp-exact f) (triples_in form l f) (triples_in form l g) ascends stand (omega (arith, counts f, counts g)) t there
 

@@ -32,7 +32,7 @@ use Rattle.index_file.specs.Conditions.{AreSlices}
 -- ---- the pairs of lines
 
 -- the pairs of lines are within bounds
-pair_within : (low rows columns : ℕ) (ls : List Line) (p : ℕ × ℕ) → LinesAscend low rows columns ls → Contains (pairs_of ls) p → (low ≤ p.0) × (p.0 < rows) × (p.1 < columns)
+pub pair_within : (low rows columns : ℕ) (ls : List Line) (p : ℕ × ℕ) → LinesAscend low rows columns ls → Contains (pairs_of ls) p → (low ≤ p.0) × (p.0 < rows) × (p.1 < columns)
 pair_within low rows columns [] p ascend there = absurd (Contains-nil p there)
 pair_within low rows columns (l ∷ ls) p ascend there =
     by (λ rest. pair_within (l.row + 1) rows columns ls p ascend.3 rest) (Contains-append_cases (pairs_of_line l) (pairs_of ls) p there)

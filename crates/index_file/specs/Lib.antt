@@ -3,3 +3,4 @@ pub mod Layout
 pub mod Image
 pub mod Conditions
 pub mod LaidOut
+pub mod steps
