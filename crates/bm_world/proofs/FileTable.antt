@@ -59,11 +59,11 @@ files_put files name bytes old new key v is updates same_name same_bytes = files
     ∙ ap (insert files name) same_bytes
 
 -- nothing is appended at a name that is not there
-append_to_none : (files : Files) (name bytes : List ℕ) → get files name ≡ None → append_to files name bytes ≡ files
+pub append_to_none : (files : Files) (name bytes : List ℕ) → get files name ≡ None → append_to files name bytes ≡ files
 append_to_none files name bytes none = ap (λ file. option_map_or (λ (old : List ℕ). insert files name (old ++ bytes)) file files) none
 
 -- bytes are appended at a name that is there
-append_to_some : (files : Files) (name bytes old : List ℕ) → get files name ≡ Some old → append_to files name bytes ≡ insert files name (old ++ bytes)
+pub append_to_some : (files : Files) (name bytes old : List ℕ) → get files name ≡ Some old → append_to files name bytes ≡ insert files name (old ++ bytes)
 append_to_some files name bytes old some = ap (λ file. option_map_or (λ (old : List ℕ). insert files name (old ++ bytes)) file files) some
 
 -- the bytes that are there are put again

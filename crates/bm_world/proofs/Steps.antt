@@ -1,5 +1,6 @@
 -- What holds over several calls of a world.
-use Rattle.std.proofs.Common.{◌≡◌, ℕ, ◌≤◌, Option, None, Some, ⊎_elim, inl, inr, refl, subst, arith}
+use Rattle.std.proofs.Common.{◌≡◌, ℕ, ◌≤◌, Option, None, Some, ⊎_elim, inl, inr, refl, sym, subst, arith}
+use Rattle.std.proofs.Math.Nat.{eq-or-lt_of_le}
 use Rattle.bm_world.specs.Meanings.{Meanings}
 use Rattle.bm_world.specs.World.{Step, Rose}
 
@@ -42,3 +43,10 @@ Step-told {m} {n} {R} moved = record {
 -- a count that did not fall before rose over all
 pub rose_later : {before mid now : ℕ} → before ≤ mid → Rose mid now → Rose before now
 rose_later later rose = ⊎_elim (λ more. inl (omega arith)) (λ last. inr last) rose
+
+-- a count that rose and did not fall after it rose over all
+pub rose_before : {before mid now : ℕ} → before ≤ mid → Rose before mid → mid ≤ now → Rose before now
+rose_before {before} {mid} {now} first rose later = ⊎_elim (λ same. at (sym same) rose) (λ more. inl more) (eq-or-lt_of_le (omega (arith, first, later)))
+  where
+    at : now ≡ before → Rose before mid → Rose before now
+    at same rose = ⊎_elim (λ more. inl (omega (arith, same, more, later))) (λ last. inr (omega (arith, same, last, first, later))) rose

@@ -76,7 +76,7 @@ write_nothing files None = refl
 write_nothing files (Some name) = append_nothing files name (get files name) refl
 
 -- no bytes written leave all
-with_written_nothing : (m : Meanings) → with_written m [] ≡ m
+pub with_written_nothing : (m : Meanings) → with_written m [] ≡ m
 with_written_nothing m = ap (λ (files : Files). record m { files = files }) (write_nothing m.files m.made)
 
 -- what a write did is what a world that tells may do

@@ -60,3 +60,7 @@ with_printed m bytes = record m { printed = m.printed ++ bytes }
 -- these bytes on standard error, after the others
 abbrev pub with_complained : Meanings → List ℕ → Meanings
 with_complained m bytes = record m { complained = m.complained ++ bytes }
+
+-- the named file was made, and these are its bytes
+abbrev pub with_made : Meanings → List ℕ → List ℕ → Meanings
+with_made m name bytes = record m { files = insert m.files name bytes; made = None }

@@ -2,7 +2,7 @@
 use Rattle.std.specs.Prelude.{◌≡◌, ◌⊎◌, ℕ, ◌-◌, ◌^◌, ◌<◌, ◌≤◌, List, [], ◌++◌, length, take, Option, None, Some, Result, Ok, Err, IsSome, IsSomeAnd, OnOk, OnErr}
 use Rattle.bm_world.specs.declared.world.Failed.{Failed}
 use Rattle.bm_world.specs.declared.world.Faults.{Faults}
-use Rattle.bm_world.specs.Meanings.{Meanings, file_at, with_opened, with_begun, with_written}
+use Rattle.bm_world.specs.Meanings.{Meanings, file_at, with_opened, with_begun, with_written, with_made}
 
 -- R holds between the entry of a call and its exit, where the world tells its meanings at both.
 -- A world that tells nothing doesn't tell again.
@@ -88,3 +88,8 @@ Writes piece result m n = OnOk result (IsBeingMade m) × AppendsFront with_writt
 -- no file is being made any more; there was one where the call succeeds
 abbrev pub Closes : Result (Unit {0}) Failed → Meanings → Meanings → Type 0
 Closes result m n = OnOk result (IsBeingMade m) × (n ≡ record m { made = None })
+
+-- the named file holds these bytes; at a failure some front of them, or nothing has changed
+abbrev pub MakesFile : List ℕ → List ℕ → Result (Unit {0}) Failed → Meanings → Meanings → Type 0
+MakesFile name bytes (Ok _) m n = n ≡ with_made m name bytes
+MakesFile name bytes (Err _) m n = (n ≡ m) ⊎ ((count : ℕ) × (n ≡ with_made m name (take count bytes)))

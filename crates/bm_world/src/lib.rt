@@ -10,12 +10,14 @@ mod reading;
 mod saying;
 mod schedule;
 mod world;
+mod writing;
 
 pub use mem_world::MemWorld;
 pub use reading::{ReadEnd, read_all};
 pub use saying::{complain_all, print_all};
 pub use schedule::WorldCall;
 pub use world::{Failed, Faults, World};
+pub use writing::write_all_of;
 
 #[cfg(test)]
 mod tests;

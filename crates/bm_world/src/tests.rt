@@ -82,6 +82,26 @@ fn texts_are_written_after_one_another(rt: HostRuntime) -> Result<(), Fail> {
 // The calls of a world in memory.
 
 #[test]
+fn a_whole_file_is_made(rt: HostRuntime) -> Result<(), Fail> {
+    let mut world = MemWorld::new(rt.alloc());
+    world.put_file("f", b"what was there")?;
+    write_all_of(&mut world, "f", b"abc")?;
+    assert!(rt; world.file("f") == Some(b"abc".as_slice()));
+    Ok(())
+}
+
+#[test]
+fn a_file_that_is_not_whole_is_made_no_more(rt: HostRuntime) -> Result<(), Fail> {
+    let mut world = MemWorld::new(rt.alloc());
+    world.fail_at(WorldCall::Write, 1)?;
+    assert!(rt; write_all_of(&mut world, "f", b"abc") == Err(Failed));
+    assert!(rt; world.file("f") == Some(b"".as_slice()));
+    assert!(rt; world.faults() == (0, 1, 0));
+    world.create("g")?;
+    Ok(())
+}
+
+#[test]
 fn a_file_is_made_once_at_a_time(rt: HostRuntime) -> Result<(), Fail> {
     let mut world = MemWorld::new(rt.alloc());
     world.put_file("f", b"old")?;
