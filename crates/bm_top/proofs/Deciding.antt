@@ -16,6 +16,7 @@ use Rattle.sparql_parse.specs.declared.fault.QueryFault.TheVariants as query_fau
 use Rattle.well_designed.specs.Computed.{refusal_in}
 use Rattle.result_write.specs.declared.form.Form.{Form}
 use Rattle.result_write.specs.ResultText.{result_text}
+use Rattle.term_numbers.specs.Limits.{max_triples}
 use Rattle.bm_top.specs.declared.decide.Undecided.{Undecided}
 use Rattle.bm_top.specs.declared.decide.Undecided.TheVariants as undecided
 use Rattle.bm_top.specs.Lines.{fault_line}
@@ -33,13 +34,13 @@ decided-data bytes text (feed_faults.NotNTriples line) h = λ form. ap (λ bad. 
 decided-data bytes text feed_faults.Memory h = tt
 
 -- there were too many triples
-pub decided-numbers : (bytes text : List ℕ) (fault : NumberFault) → first_bad bytes ≡ None → (fault ≡ number_faults.TooManyTriples → 8388608 < length (graph_in bytes)) → IsDecided bytes text (Err (from_numbers fault))
+pub decided-numbers : (bytes text : List ℕ) (fault : NumberFault) → first_bad bytes ≡ None → (fault ≡ number_faults.TooManyTriples → max_triples < length (graph_in bytes)) → IsDecided bytes text (Err (from_numbers fault))
 unfolding decided
 decided-numbers bytes text number_faults.TooManyTriples good many =
     λ form. ap (λ bad. deciding form bad (graph_in bytes) (query_reading text)) good ∙ many-counted (graph_in bytes) (answering form (graph_in bytes) (query_reading text)) (many refl)
 decided-numbers bytes text number_faults.Memory good many = tt
 
-module _ (bytes text : List ℕ) (good : first_bad bytes ≡ None) (few : length (graph_in bytes) ≤ 8388608) where
+module _ (bytes text : List ℕ) (good : first_bad bytes ≡ None) (few : length (graph_in bytes) ≤ max_triples) where
   -- the data was taken
   taken : (form : Form) → decided form bytes text ≡ answering form (graph_in bytes) (query_reading text)
   unfolding decided

@@ -1,5 +1,4 @@
 pub mod Counting
-pub mod DataTriples
 pub mod Deciding
 pub mod Distinct
 pub mod Examples

@@ -30,6 +30,7 @@ use Rattle.result_write.specs.declared.form.Form.{Form}
 use Rattle.result_write.specs.ResultText.{result_text}
 use Rattle.bm_world.specs.declared.world.Faults.{Faults}
 use Rattle.bm_world.specs.Meanings.{Files, Meanings}
+use Rattle.term_numbers.specs.Limits.{max_triples}
 use Rattle.bm_top.specs.Command.{Request, ask, request_of}
 use Rattle.bm_top.specs.Lines.{max_data_bytes, max_query_bytes, limit_line, too_many_triples_line, bad_line_line, fault_line, pattern_line}
 use Rattle.bm_top.specs.Run.{IsComplete, Outputs, Prints}
@@ -79,11 +80,11 @@ denoted-fits text query is =
     pattern_fits query.pattern below
 
 -- the data is read, and its graph keeps its limit
-decided-few : (form : Form) (bytes text : List ℕ) (graph : List Triple) (result : Result AbstractQuery QueryFault) → IsGraphOf bytes graph → length graph ≤ 8388608 → query_reading text ≡ result → decided form bytes text ≡ answering form graph result
+decided-few : (form : Form) (bytes text : List ℕ) (graph : List Triple) (result : Result AbstractQuery QueryFault) → IsGraphOf bytes graph → length graph ≤ max_triples → query_reading text ≡ result → decided form bytes text ≡ answering form graph result
 decided-few form bytes text graph result is few found =
     let read = graph-read bytes graph is in
     decided-by form bytes text None result read.none found
-    ∙ few-counted (graph_in bytes) (answering form (graph_in bytes) result) (subst (λ (g : List Triple). length g ≤ 8388608) read.are few)
+    ∙ few-counted (graph_in bytes) (answering form (graph_in bytes) result) (subst (λ (g : List Triple). length g ≤ max_triples) read.are few)
     ∙ ap (λ g. answering form g result) (sym read.are)
 
 answer-decided : (form : Form) (bytes text printed : List ℕ) → IsAnswer form bytes text printed → decided form bytes text ≡ answered printed
@@ -102,10 +103,10 @@ too_many-decided : (form : Form) (bytes text : List ℕ) → HasTooManyTriples b
 too_many-decided form bytes text is =
     let read = graph-read bytes is.graph is.is_graph in
     decided-by form bytes text None (query_reading text) read.none refl
-    ∙ many-counted (graph_in bytes) (answering form (graph_in bytes) (query_reading text)) (subst (λ (g : List Triple). 8388608 < length g) read.are is.many)
+    ∙ many-counted (graph_in bytes) (answering form (graph_in bytes) (query_reading text)) (subst (λ (g : List Triple). max_triples < length g) read.are is.many)
 
 -- a query is refused for its text, or as its pattern is
-refused-decided : (form : Form) (bytes text line : List ℕ) (graph : List Triple) → IsGraphOf bytes graph → length graph ≤ 8388608 → IsRefusedText text line → decided form bytes text ≡ refused 3 line
+refused-decided : (form : Form) (bytes text line : List ℕ) (graph : List Triple) → IsGraphOf bytes graph → length graph ≤ max_triples → IsRefusedText text line → decided form bytes text ≡ refused 3 line
 refused-decided form bytes text line graph is few (has_fault fault has is_line) =
     decided-few form bytes text graph (Err fault) is few (fault-reading text fault has) ∙ ap (refused 3) (sym is_line)
 refused-decided form bytes text line graph is few (has_pattern query refusal denoted refuses is_line) =
@@ -118,7 +119,7 @@ refusal-decided form bytes text line is = refused-decided form bytes text line i
 
 -- what decides, both ways
 
-module _ (form : Form) (bytes text : List ℕ) (none : first_bad bytes ≡ None) (few : length (graph_in bytes) ≤ 8388608) where
+module _ (form : Form) (bytes text : List ℕ) (none : first_bad bytes ≡ None) (few : length (graph_in bytes) ≤ max_triples) where
   abbrev answer_text : AbstractQuery → List ℕ
   answer_text query = result_text form query (answers_to query (graph_in bytes))
 
@@ -152,7 +153,7 @@ module _ (form : Form) (bytes text : List ℕ) (none : first_bad bytes ≡ None)
   answering-is (Ok query) found = accepting-is query (refusal_in query.pattern) found refl
 
 counting-is : (form : Form) (bytes text : List ℕ) (result : Result AbstractQuery QueryFault) → first_bad bytes ≡ None → query_reading text ≡ result →
-    (8388608 < length (graph_in bytes)) ⊎ (length (graph_in bytes) ≤ 8388608) → IsAnswerOrRefusal form bytes text (deciding form None (graph_in bytes) result)
+    (max_triples < length (graph_in bytes)) ⊎ (length (graph_in bytes) ≤ max_triples) → IsAnswerOrRefusal form bytes text (deciding form None (graph_in bytes) result)
 counting-is form bytes text result none found (inl many) =
     too_many (record { graph = graph_in bytes; is_graph = read-graph bytes none; many = many }) (many-counted (graph_in bytes) (answering form (graph_in bytes) result) many)
 counting-is form bytes text result none found (inr few) =
@@ -160,7 +161,7 @@ counting-is form bytes text result none found (inr few) =
 
 deciding-is : (form : Form) (bytes text : List ℕ) (bad : Option ℕ) (result : Result AbstractQuery QueryFault) → first_bad bytes ≡ bad → query_reading text ≡ result → IsAnswerOrRefusal form bytes text (deciding form bad (graph_in bytes) result)
 deciding-is form bytes text (Some n) result is found = bad_data (bad_line_line n) (record { number = n; is_bad = (first_bad-found bytes n).0 is; is_line = refl }) refl
-deciding-is form bytes text None result is found = counting-is form bytes text result is found (cases_lt 8388608 (length (graph_in bytes)))
+deciding-is form bytes text None result is found = counting-is form bytes text result is found (cases_lt max_triples (length (graph_in bytes)))
 
 decided-is : (form : Form) (bytes text : List ℕ) → IsAnswerOrRefusal form bytes text (decided form bytes text)
 unfolding decided

@@ -16,10 +16,6 @@ max_data_bytes = 536870912
 abbrev pub max_query_bytes : ℕ
 max_query_bytes = 1048576
 
--- the distinct triples that a graph may have
-abbrev pub max_triples : ℕ
-max_triples = 8388608
-
 abbrev pub usage_line : List ℕ
 usage_line = codes "usage: bitmat ask DATA QUERY tsv|json | load DATA INDEX | query INDEX QUERY tsv|json | check INDEX | explain INDEX QUERY | trial N\n"
 

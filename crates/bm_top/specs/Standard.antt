@@ -16,7 +16,8 @@ use Rattle.result_write.specs.declared.form.Form.{Form}
 use Rattle.result_write.specs.ResultText.{result_text}
 use Rattle.bm_world.specs.Meanings.{Files}
 use Rattle.bm_top.specs.Command.{ask, request_of}
-use Rattle.bm_top.specs.Lines.{max_data_bytes, max_query_bytes, max_triples, usage_line, read_fault_line, limit_line, too_many_triples_line, bad_line_line, fault_line, pattern_line}
+use Rattle.term_numbers.specs.Limits.{max_triples}
+use Rattle.bm_top.specs.Lines.{max_data_bytes, max_query_bytes, usage_line, read_fault_line, limit_line, too_many_triples_line, bad_line_line, fault_line, pattern_line}
 use Rattle.bm_top.specs.Verdict.{Verdict, answered, refused}
 
 -- the bytes are N-Triples: lines between line ends, which spell these triples one after another

@@ -11,10 +11,7 @@ use nt_read::FeedFault;
 use sparql_parse::{QueryFault, parse_query};
 use std::alloc::{AllocError, Global};
 use std::hash::BuildHasher;
-use term_numbers::{NumberFault, number_by};
-
-/// The distinct triples that a graph may have.
-const MAX_TRIPLES: u32 = 8_388_608;
+use term_numbers::{MAX_TRIPLES, NumberFault, number_by};
 
 /// An accepted query, and the graph over which it is asked.
 #[derive(Debug, Drop)]

@@ -104,7 +104,7 @@ length-lines_of-le [] = omega arith
 length-lines_of-le (p ∷ ps) = omega (arith, length-with_pair p (lines_of ps), length-lines_of-le ps)
 
 -- at most eight bytes a pair
-length-bytes_of_lines-le : (form : RowForm) (ls : List Line) → length (bytes_of_lines form ls) ≤ 8 * length (pairs_of ls)
+pub length-bytes_of_lines-le : (form : RowForm) (ls : List Line) → length (bytes_of_lines form ls) ≤ 8 * length (pairs_of ls)
 length-bytes_of_lines-le form [] = omega arith
 length-bytes_of_lines-le form (l ∷ ls) =
     omega (arith, length-append (row_bytes form l.columns) (bytes_of_lines form ls), length-row_bytes-le form l.columns, length-pairs_of-first l ls, length-bytes_of_lines-le form ls)

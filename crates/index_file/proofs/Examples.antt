@@ -2,6 +2,7 @@
 use Rattle.std.proofs.Common.{◌≡◌, ℕ, List, [], ◌∷◌, ◌++◌, take, codes, refl, arith}
 use Rattle.byte_tables.specs.Pieces.{CutWhole}
 use Rattle.index_file.specs.Conditions.{HeaderIsKnown, LengthsAgree}
+use Rattle.index_file.specs.Damage.{IsFirstFailing}
 use Rattle.byte_tables.specs.Numbers.{number_bytes, numbers_in}
 use Rattle.byte_tables.specs.Pairs.{pair_bytes, pairs_in}
 use Rattle.run_rows.specs.declared.form.RowForm.TheVariants.{V1}
@@ -12,6 +13,8 @@ use Rattle.term_numbers.specs.Numbering.{numbering_of, term_table}
 use Rattle.index_file.specs.Families.{slices_of}
 use Rattle.index_file.specs.Layout.{name, layout_bytes, layout_in}
 use Rattle.index_file.specs.Image.{image_of, graph_in}
+use Rattle.index_file.specs.Stored.{stored_of, counts_of}
+use Rattle.index_file.specs.declared.damaged.Part.TheVariants.{Header}
 use Rattle.index_file.specs.declared.family.Family.TheVariants.{Po}
 
 -- ---- the empty graph
@@ -85,3 +88,13 @@ one_less lengths = let whole : ◌≡◌ {A = ℕ} 52 51 = lengths.whole in omeg
 -- texts that start at 0, 2 and 2: the second has no byte
 empty_text : CutWhole 2 (0 ∷ 2 ∷ 2 ∷ []) → ⊥
 empty_text cut = omega (arith, cut.1.1.0)
+
+-- ---- what one sees that reads it
+
+-- the index of no triple has none of anything
+empty_counts : counts_of (stored_of 1 []) ≡ record { version = 1; shared = 0; subjects = 0; objects = 0; predicates = 0; triples = 0 }
+empty_counts = refl
+
+-- without a byte the header fails, and it is the first
+no_byte : IsFirstFailing 1 V1 [] Header
+no_byte = record { fails = λ header. omega (arith, header.long); before = λ earlier low. absurd (omega arith) }

@@ -12,10 +12,9 @@ use Rattle.std.specs.declared.cmp.Ordering.{Ordering}
 use Rattle.std.specs.declared.cmp.Ordering.TheVariants.{Less, Equal, Greater}
 use Rattle.bm_term.proofs.Elements.{Contains-nil}
 use Rattle.term_numbers.specs.Order.{Numbered}
-use Rattle.term_numbers.proofs.Ascending.{set_of-is, same_members}
+use Rattle.term_numbers.proofs.Ascending.{set_of-is, same_members, all_from_members, member_of_all, ascends-append}
 use Rattle.term_numbers.proofs.EntryLaws.{Contains-filter, filter-Contains}
 use Rattle.term_numbers.proofs.NumberingLaws.{from_map, Contains-map}
-use Rattle.index_file.proofs.Ascending.{all_from_members, member_of_all, ascends-append}
 use Rattle.index_file.specs.Families.{slice_number, pair_of, triple_at, pair_cmp, pairs_in, slices_of, triples_from}
 use Rattle.index_file.specs.declared.family.Family.{Family}
 use Rattle.index_file.specs.declared.family.Family.TheVariants.{So, Os, Ps, Po}

@@ -8,8 +8,7 @@ use Rattle.byte_tables.specs.Numbers.{IsBytes}
 use Rattle.run_rows.specs.declared.form.RowForm.{RowForm}
 use Rattle.term_numbers.specs.Order.{Numbered}
 use Rattle.term_numbers.specs.Numbering.{named}
-use Rattle.term_numbers.proofs.Ascending.{set_of-is}
-use Rattle.term_numbers.proofs.NumberLaws.{length-set_of}
+use Rattle.term_numbers.proofs.Ascending.{set_of-is, length-set_of}
 use Rattle.index_file.proofs.FamilyLaws.{pair_of_triple, from_slices_of, to_slices_of, length-slices_of}
 use Rattle.index_file.proofs.LayoutLaws.{length-layout_bytes, IsReadWhole-laid_out, no_front}
 use Rattle.index_file.proofs.ReadingLaws.{IsRead-index, laid_out, all_used, image_of-graph_in, slice_there}

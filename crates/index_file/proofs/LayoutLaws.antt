@@ -6,7 +6,8 @@ use Rattle.byte_tables.specs.Pieces.{joined, ends_from, starts_of, pieces_at, Cu
 use Rattle.byte_tables.proofs.NumberLaws.{IsBytes-take, IsBytes-drop, numbers_in-number_bytes, length-number_bytes, ReadWhole, ReadWhole-bytes}
 use Rattle.byte_tables.proofs.PieceLaws.{pieces_at-starts_of, CutWhole-starts_of, length-starts_of, IsTable, IsTable-cut}
 use Rattle.index_file.specs.Layout.{Layout, name, size_for, file_size, head_numbers, layout_bytes, head_in, field, text_count, slice_count, after_head, text_starts, after_starts, text_part, after_texts, slice_starts, slice_part, layout_in}
-use Rattle.index_file.specs.Conditions.{most_triples, LengthsAgree}
+use Rattle.term_numbers.specs.Limits.{max_triples}
+use Rattle.index_file.specs.Conditions.{LengthsAgree}
 use Rattle.index_file.specs.LaidOut.{CanBeLaidOut, IsLaidOut}
 
 -- ---- from a layout to bytes
@@ -118,7 +119,7 @@ IsLaidOut-layout_bytes l can =
       lengths = record {
         whole = at 8 ∙ sym long;
         parts = (λ i. size_for (counts i) (at 6 i) (slice_counts i) (at 7 i)) ∙ sym long;
-        few = subst (λ n. n ≤ most_triples) (sym (at 5)) can.few;
+        few = subst (λ n. n ≤ max_triples) (sym (at 5)) can.few;
       };
       texts = subst (λ n. CutWhole n (text_starts bytes)) (sym (at 6)) (subst (CutWhole (length (joined l.texts))) (sym read.text_starts_are) (CutWhole-starts_of l.texts can.have_texts));
       slices = subst (λ n. CutWhole n (slice_starts bytes)) (sym (at 7)) (subst (CutWhole (length (joined l.slices))) (sym read.slice_starts_are) (CutWhole-starts_of l.slices can.have_slices));
@@ -130,20 +131,20 @@ nine_numbers : (xs : List ℕ) → length xs ≡ 9 → slice_index xs 0 ∷ slic
 nine_numbers (a ∷ b ∷ c ∷ d ∷ e ∷ f ∷ g ∷ h ∷ i ∷ []) nine = refl
 nine_numbers _ nine = absurd (omega arith)
 
-index_fits : (xs : List ℕ) (i : ℕ) → AllFit32 xs → slice_index xs i < 2 ^ 32
+pub index_fits : (xs : List ℕ) (i : ℕ) → AllFit32 xs → slice_index xs i < 2 ^ 32
 index_fits [] i fit = omega arith
 index_fits (x ∷ xs) zero fit = fit.0
 index_fits (x ∷ xs) (suc i) fit = index_fits xs i fit.1
 
 -- how long the parts are, where they make all
-record PartLengths (k t d r : ℕ) (bytes : List ℕ) : Type 0 where
-  head : length (take 36 (drop 8 bytes)) ≡ 4 * 9
-  starts : length (take (4 * (k + 1)) (drop 36 (drop 8 bytes))) ≡ 4 * (k + 1)
-  texts : length (take t (drop (4 * (k + 1)) (drop 36 (drop 8 bytes)))) ≡ t
-  places : length (take (4 * (d + 1)) (drop t (drop (4 * (k + 1)) (drop 36 (drop 8 bytes))))) ≡ 4 * (d + 1)
-  slices : length (drop (4 * (d + 1)) (drop t (drop (4 * (k + 1)) (drop 36 (drop 8 bytes))))) ≡ r
+pub record PartLengths (k t d r : ℕ) (bytes : List ℕ) : Type 0 where
+  pub head : length (take 36 (drop 8 bytes)) ≡ 4 * 9
+  pub starts : length (take (4 * (k + 1)) (drop 36 (drop 8 bytes))) ≡ 4 * (k + 1)
+  pub texts : length (take t (drop (4 * (k + 1)) (drop 36 (drop 8 bytes)))) ≡ t
+  pub places : length (take (4 * (d + 1)) (drop t (drop (4 * (k + 1)) (drop 36 (drop 8 bytes))))) ≡ 4 * (d + 1)
+  pub slices : length (drop (4 * (d + 1)) (drop t (drop (4 * (k + 1)) (drop 36 (drop 8 bytes))))) ≡ r
 
-part_lengths : (k t d r : ℕ) (bytes : List ℕ) → size_for k t d r ≡ length bytes → PartLengths k t d r bytes
+pub part_lengths : (k t d r : ℕ) (bytes : List ℕ) → size_for k t d r ≡ length bytes → PartLengths k t d r bytes
 part_lengths k t d r bytes all =
     let one = drop 8 bytes in
     let two = drop 36 one in

@@ -3,7 +3,7 @@ use Rattle.std.proofs.Common.{◌↔◌, All, Contains, arith}
 use Rattle.std.specs.List.Sorted.{IsStrictlySortedBy}
 use Rattle.run_rows.specs.declared.form.RowForm.{RowForm}
 use Rattle.term_numbers.specs.Order.{Numbered}
-use Rattle.index_file.proofs.Ascending.{has_all}
+use Rattle.term_numbers.proofs.Ascending.{has_all}
 use Rattle.index_file.proofs.FamilyLaws.{family_cmp, family_cmp-total, family_cmp-exact}
 use Rattle.byte_tables.specs.Numbers.{IsBytes}
 use Rattle.index_file.proofs.ReadingLaws.{triples_ascend}

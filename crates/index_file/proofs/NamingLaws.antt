@@ -13,10 +13,9 @@ use Rattle.bm_term.proofs.Elements.{Contains-head, Contains-tail}
 use Rattle.bm_term.proofs.TripleOrder.{triple_cmp-total, triple_cmp-exact}
 use Rattle.term_numbers.specs.Order.{text_cmp, Numbered, number_cmp}
 use Rattle.term_numbers.specs.Numbering.{Terms, subject_texts, predicate_texts, object_texts, is_among, terms_of, all_subjects, all_objects, place_of, numbers_in, named, numbering_of}
-use Rattle.term_numbers.proofs.Ascending.{text_cmp-total, text_cmp-exact, number_cmp-total, number_cmp-exact, set_of-is, set_of-same, same_members}
+use Rattle.term_numbers.proofs.Ascending.{text_cmp-total, text_cmp-exact, number_cmp-total, number_cmp-exact, set_of-is, set_of-same, same_members, member_of_all, not_below_itself}
 use Rattle.term_numbers.proofs.EntryLaws.{Contains-filter, filter-Contains}
 use Rattle.term_numbers.proofs.NumberingLaws.{from_map, Contains-map, among, among_from, not_among, bytes_eq-itself}
-use Rattle.index_file.proofs.Ascending.{member_of_all, not_below_itself}
 use Rattle.index_file.specs.Conditions.{AreOrdered}
 
 -- ---- texts that differ
@@ -29,7 +28,7 @@ Differ (x ∷ xs) = (Contains xs x → ⊥) × Differ xs
 pub Differ-ascending : (xs : List (List ℕ)) → IsStrictlySortedBy text_cmp xs → Differ xs
 unfolding IsStrictlySortedBy
 Differ-ascending [] h = tt
-Differ-ascending (x ∷ xs) h = ((λ there. not_below_itself text_cmp text_cmp-total text_cmp-exact x (member_of_all (λ y. text_cmp x y ≡ Less) xs h.0 x there)), Differ-ascending xs h.1)
+Differ-ascending (x ∷ xs) h = ((λ there. not_below_itself text_cmp text_cmp-total x (member_of_all (λ y. text_cmp x y ≡ Less) xs h.0 x there)), Differ-ascending xs h.1)
 
 Differ-append : (xs ys : List (List ℕ)) → Differ xs → Differ ys → ((x : List ℕ) → Contains xs x → Contains ys x → ⊥) → Differ (xs ++ ys)
 Differ-append [] ys hx hy apart = hy

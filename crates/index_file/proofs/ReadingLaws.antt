@@ -11,9 +11,7 @@ use Rattle.byte_tables.proofs.NumberLaws.{IsBytes-drop}
 use Rattle.run_rows.specs.declared.form.RowForm.{RowForm}
 use Rattle.term_numbers.specs.Order.{Numbered, number_cmp}
 use Rattle.term_numbers.specs.Numbering.{Terms, Numbering, numbering_of}
-use Rattle.term_numbers.proofs.Ascending.{number_cmp-total, number_cmp-exact, set_of-is}
-use Rattle.term_numbers.proofs.NumberLaws.{length-set_of}
-use Rattle.index_file.proofs.Ascending.{has_all, length_of_same}
+use Rattle.term_numbers.proofs.Ascending.{number_cmp-total, number_cmp-exact, set_of-is, has_all, length_of_same, length-set_of}
 use Rattle.index_file.proofs.FamilyLaws.{family_cmp, family_cmp-total, family_cmp-exact, pair_of_triple, triple_of_pair, ascends-triples_from, slices_of-same, slice_again}
 use Rattle.index_file.proofs.GroupLaws.{term_table-terms_in, slices-group_in, TermCounts, TermCounts-terms_in, length-all_subjects, length-all_objects, length-group_in}
 use Rattle.index_file.proofs.LayoutLaws.{IsReadWhole-laid_out}
@@ -45,7 +43,7 @@ slice_there xss k x there = by (cases_lt k (length xss))
     by (inr past) = absurd (Contains-nil x (subst (λ l. Contains l x) (get_or_past xss k [] past) there))
 
 module _ (form : RowForm) (l : Layout) (bytes : All IsBytes l.slices) (rows : RowsAreEncodings form l) where
-  group_bytes : (f : Family) → All IsBytes (group_in l f)
+  pub group_bytes : (f : Family) → All IsBytes (group_in l f)
   group_bytes So = All-take IsBytes l.predicates l.slices bytes
   group_bytes Os = All-take IsBytes l.predicates (drop l.predicates l.slices) (All-drop IsBytes l.predicates l.slices bytes)
   group_bytes Ps = All-take IsBytes (l.shared + l.objects) (drop (2 * l.predicates) l.slices) (All-drop IsBytes (2 * l.predicates) l.slices bytes)
@@ -111,13 +109,13 @@ module _ (form : RowForm) (l : Layout) (read : IsRead form l) where
   in_order_is = set_of-is number_cmp number_cmp-total number_cmp-exact first
 
   -- as many triples in order as are written
-  count_in_order : length in_order ≡ l.triples
+  pub count_in_order : length in_order ≡ l.triples
   count_in_order = omega (arith, length-set_of number_cmp first, length_of_same (family_cmp So) (family_cmp-total So) (family_cmp-exact So) first in_order first_ascends (λ t there. (in_order_is.same t).1 there), read.counts So)
 
   abbrev numbering : Numbering
   numbering = record { terms = terms; triples = in_order }
 
-  pairs_again : (f : Family) → family_pairs numbering f ≡ pairs f
+  pub pairs_again : (f : Family) → family_pairs numbering f ≡ pairs f
   pairs_again f =
       ap (λ n. slices_of f 0 n in_order) (sym (as_many_slices f))
       ∙ slices_of-same f (pairs f) in_order (pairs_read f).ascend (λ t. (

@@ -1,5 +1,5 @@
 -- Whole rows that stand in another family: with equal rows the triples of one stand in the other.
-use Rattle.std.proofs.Common.{◌≡◌, ◌≢◌, ◌↔◌, ℕ, zero, suc, ◌+◌, ◌≤◌, ◌⊎◌, inl, inr, List, [], ◌∷◌, Some, length, get_or, map, Contains, refl, sym, ap, ◌∙◌, subst, arith}
+use Rattle.std.proofs.Common.{◌≡◌, ◌≢◌, ◌↔◌, ℕ, zero, suc, ◌+◌, ◌≤◌, ◌⊎◌, inl, inr, List, [], ◌∷◌, Some, None, length, get_or, map, Contains, refl, sym, ap, ◌∙◌, subst, arith}
 use Rattle.std.proofs.lemmas.Bool.{cases_eq}
 use Rattle.std.proofs.lemmas.List.Elements.{Contains-append_cases, Contains-append_left, Contains-append_right}
 use Rattle.std.proofs.lemmas.Map.Keys.{sorted_from_strictly_increasing}
@@ -22,10 +22,12 @@ use Rattle.index_file.specs.steps.Rows.{LinesMatch, RowsMatch}
 
 -- ---- from equal rows to triples
 
-same_some : {X : Type 0} (x y : X) → Some x ≡ Some y → x ≡ y
+-- what two options hold is the same where they are
+pub same_some : {X : Type 0} (x y : X) → Some x ≡ Some y → x ≡ y
 same_some x y h = cc
 
-pairs_at : (lss : List (List Line)) (r : ℕ) → get_or (map pairs_of lss) r [] ≡ pairs_of (get_or lss r [])
+-- the pairs of the slice in a place
+pub pairs_at : (lss : List (List Line)) (r : ℕ) → get_or (map pairs_of lss) r [] ≡ pairs_of (get_or lss r [])
 pairs_at [] r = refl
 pairs_at (ls ∷ lss) zero = refl
 pairs_at (ls ∷ lss) (suc r) = pairs_at lss r
@@ -99,6 +101,22 @@ row_found low rows columns n c (l ∷ ls) ascend there =
         let r = later rest in
         record { row = r.row; found = line_of-other n l ls apart ∙ r.found; has = r.has; is_row = r.is_row }
 
+-- a row that is found has the columns of its pairs
+pub row_has : (rows columns n c : ℕ) (ls : List Line) (xs : List ℕ) → LinesAscend 0 rows columns ls → line_of n ls ≡ Some xs → Contains xs c ↔ Contains (pairs_of ls) (n, c)
+row_has rows columns n c ls xs ascend found = (
+  λ there. line_found n c ls xs found there,
+  λ there.
+      let r = row_found 0 rows columns n c ls ascend there in
+      subst (λ ys. Contains ys c) (same_some r.row xs (sym r.found ∙ found)) r.has,
+)
+
+-- and a row that is not found has no pair
+pub no_row : (rows columns n c : ℕ) (ls : List Line) → LinesAscend 0 rows columns ls → line_of n ls ≡ None → Contains (pairs_of ls) (n, c) → ⊥
+no_row rows columns n c ls ascend none there =
+    let r = row_found 0 rows columns n c ls ascend there in
+    let found = r.found in
+    absurd (cc)
+
 -- the same row, where the same columns are pairs
 same_row : (rows columns tall wide n : ℕ) (l : Line) (ls os : List Line) → LinesAscend 0 rows columns ls → LinesAscend 0 tall wide os → IsRow columns l.columns → line_of l.row ls ≡ Some l.columns
     → ((c : ℕ) → Contains (pairs_of ls) (l.row, c) ↔ Contains (pairs_of os) (n, c)) → line_of n os ≡ Some l.columns
@@ -153,7 +171,7 @@ abbrev pub EachLines : ℕ → ℕ → List (List Line) → Type 0
 EachLines rows columns [] = Unit {0}
 EachLines rows columns (ls ∷ lss) = LinesAscend 0 rows columns ls × EachLines rows columns lss
 
-lines_at : (rows columns : ℕ) (lss : List (List Line)) (r : ℕ) → EachLines rows columns lss → LinesAscend 0 rows columns (get_or lss r [])
+pub lines_at : (rows columns : ℕ) (lss : List (List Line)) (r : ℕ) → EachLines rows columns lss → LinesAscend 0 rows columns (get_or lss r [])
 lines_at rows columns [] r each = tt
 lines_at rows columns (ls ∷ lss) zero each = each.0
 lines_at rows columns (ls ∷ lss) (suc r) each = lines_at rows columns lss r each.1
@@ -173,13 +191,13 @@ match_from_pairs rows columns tall wide n others (ls ∷ lss) each other same = 
 )
 
 -- a triple of slices is a pair of its slice
-pair_there : (f : Family) (pss : List (List (ℕ × ℕ))) (k : ℕ) (p : ℕ × ℕ) → Contains (triples_from f 0 pss) (triple_at f k p) → Contains (get_or pss k []) p
+pub pair_there : (f : Family) (pss : List (List (ℕ × ℕ))) (k : ℕ) (p : ℕ × ℕ) → Contains (triples_from f 0 pss) (triple_at f k p) → Contains (get_or pss k []) p
 pair_there f pss k p there =
     let found = pair_of_triple f 0 pss (triple_at f k p) there in
     let place : found.0 ≡ k = omega (arith, found.1, slice_again f k p) in
     subst (Contains (get_or pss k [])) (pair_again f k p) (subst (λ m. Contains (get_or pss m []) (pair_of f (triple_at f k p))) place found.2)
 
-triple_there : (f : Family) (pss : List (List (ℕ × ℕ))) (k : ℕ) (p : ℕ × ℕ) → Contains (get_or pss k []) p → Contains (triples_from f 0 pss) (triple_at f k p)
+pub triple_there : (f : Family) (pss : List (List (ℕ × ℕ))) (k : ℕ) (p : ℕ × ℕ) → Contains (get_or pss k []) p → Contains (triples_from f 0 pss) (triple_at f k p)
 triple_there f pss k p there = let none : 0 + k ≡ k = omega arith in subst (λ m. Contains (triples_from f 0 pss) (triple_at f m p)) none (triple_of_pair f 0 pss k p there)
 
 -- families with the same triples have equal rows

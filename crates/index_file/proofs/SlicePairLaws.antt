@@ -23,7 +23,7 @@ use Rattle.cube_slices.specs.Slices.{bytes_of_lines, entries_of, slice_bytes, sl
 use Rattle.cube_slices.proofs.PairLaws.{pairs_of-lines_of, lines_of-pairs_of, AreLines-lines_of}
 use Rattle.cube_slices.proofs.SliceLaws.{slice_lines-slice_bytes, IsSlice-slice_bytes, EncodesLines-slice}
 use Rattle.term_numbers.proofs.NumberingLaws.{from_map}
-use Rattle.index_file.proofs.Ascending.{all_from_members, ascends-append}
+use Rattle.term_numbers.proofs.Ascending.{all_from_members, ascends-append}
 use Rattle.index_file.proofs.FamilyLaws.{EachAscends, nothing_ascends, nat_less}
 use Rattle.index_file.specs.Families.{pair_cmp}
 use Rattle.index_file.specs.Image.{pair_slice, slice_pairs}
@@ -100,7 +100,7 @@ comes_before p q less = by (nat_cmp p.0 q.0) refl less
     by Equal e h = inr (is_equal p.0 q.0 e, is_less p.1 q.1 h)
     by Greater e h = absurd (cc)
 
-PairsAscend-sorted : (rows columns : ℕ) (ps : List (ℕ × ℕ)) → IsStrictlySortedBy pair_cmp ps → ((p : ℕ × ℕ) → Contains ps p → (p.0 < rows) × (p.1 < columns)) → PairsAscend rows columns ps
+pub PairsAscend-sorted : (rows columns : ℕ) (ps : List (ℕ × ℕ)) → IsStrictlySortedBy pair_cmp ps → ((p : ℕ × ℕ) → Contains ps p → (p.0 < rows) × (p.1 < columns)) → PairsAscend rows columns ps
 unfolding IsStrictlySortedBy
 PairsAscend-sorted rows columns [] h within = tt
 PairsAscend-sorted rows columns (p ∷ ps) h within =

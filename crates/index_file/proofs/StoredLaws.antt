@@ -10,9 +10,8 @@ use Rattle.bm_term.proofs.Elements.{Contains-head, Contains-tail}
 use Rattle.byte_tables.specs.Pieces.{HaveBytes}
 use Rattle.term_numbers.specs.Order.{text_cmp, Numbered}
 use Rattle.term_numbers.specs.Numbering.{Terms, subject_texts, object_texts, is_among, terms_of, all_subjects, all_objects, term_table, named}
-use Rattle.term_numbers.proofs.Ascending.{text_cmp-total, text_cmp-exact, set_of-is}
+use Rattle.term_numbers.proofs.Ascending.{text_cmp-total, text_cmp-exact, set_of-is, all_from_members}
 use Rattle.term_numbers.proofs.NumberingLaws.{from_map}
-use Rattle.index_file.proofs.Ascending.{all_from_members}
 use Rattle.index_file.proofs.NamingLaws.{UseAll, graph_named, graph_is}
 use Rattle.index_file.specs.Conditions.{AreCanonical}
 
@@ -68,18 +67,22 @@ term_has_bytes (plain lexical) = omega arith
 term_has_bytes (tagged lexical tag) = omega arith
 term_has_bytes (typed lexical datatype) = omega arith
 
-text_has_bytes : (x : List ℕ) → IsCanonical x → 0 < length x
+pub text_has_bytes : (x : List ℕ) → IsCanonical x → 0 < length x
 text_has_bytes x is = subst (λ y. 0 < length y) (sym is.spelled) (term_has_bytes is.term)
 
 HaveBytes-members : (xs : List (List ℕ)) → ((x : List ℕ) → Contains xs x → 0 < length x) → HaveBytes xs
 HaveBytes-members [] each = tt
 HaveBytes-members (x ∷ xs) each = (each x (Contains-head x xs), HaveBytes-members xs (λ y there. each y (Contains-tail x xs y there)))
 
--- the texts of the term table have bytes
-pub HaveBytes-terms : (terms : Terms) → AreCanonical terms → HaveBytes (term_table terms)
-HaveBytes-terms terms canonical =
+-- the texts of the term table are canonical
+pub All-canonical : (terms : Terms) → AreCanonical terms → All IsCanonical (term_table terms)
+All-canonical terms canonical =
     let shared = All-members IsCanonical terms.shared (λ x at. node_is_canonical x (All-contains IsNode terms.shared x canonical.shared at)) in
     let subjects = All-members IsCanonical terms.subjects (λ x at. node_is_canonical x (All-contains IsNode terms.subjects x canonical.subjects at)) in
     let predicates = All-members IsCanonical terms.predicates (λ x at. (All-contains (IsTextOf Iri) terms.predicates x canonical.predicates at).canonical) in
-    let all = All-append IsCanonical terms.shared (terms.subjects ++ (terms.objects ++ terms.predicates)) shared (All-append IsCanonical terms.subjects (terms.objects ++ terms.predicates) subjects (All-append IsCanonical terms.objects terms.predicates canonical.objects predicates)) in
-    HaveBytes-members (term_table terms) (λ x there. text_has_bytes x (All-contains IsCanonical (term_table terms) x all there))
+    All-append IsCanonical terms.shared (terms.subjects ++ (terms.objects ++ terms.predicates)) shared (All-append IsCanonical terms.subjects (terms.objects ++ terms.predicates) subjects (All-append IsCanonical terms.objects terms.predicates canonical.objects predicates))
+
+-- and have bytes
+pub HaveBytes-terms : (terms : Terms) → AreCanonical terms → HaveBytes (term_table terms)
+HaveBytes-terms terms canonical =
+    HaveBytes-members (term_table terms) (λ x there. text_has_bytes x (All-contains IsCanonical (term_table terms) x (All-canonical terms canonical) there))

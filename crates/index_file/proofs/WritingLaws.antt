@@ -9,10 +9,9 @@ use Rattle.byte_tables.specs.Pieces.{joined}
 use Rattle.run_rows.specs.declared.form.RowForm.{RowForm}
 use Rattle.term_numbers.specs.Order.{Numbered, number_cmp}
 use Rattle.term_numbers.specs.Numbering.{Numbering, terms_of, named, numbers_in, numbering_of}
-use Rattle.term_numbers.proofs.Ascending.{number_cmp-total, number_cmp-exact, set_of-is, set_of-same}
+use Rattle.term_numbers.proofs.Ascending.{number_cmp-total, number_cmp-exact, set_of-is, set_of-same, length_of_same}
 use Rattle.term_numbers.proofs.NumberLaws.{as_many}
 use Rattle.term_numbers.proofs.NumberingLaws.{map-same}
-use Rattle.index_file.proofs.Ascending.{length_of_same}
 use Rattle.index_file.proofs.FamilyLaws.{family_cmp, family_cmp-total, family_cmp-exact, pair_of_triple, triple_of_pair, ascends-triples_from, ascends-slices_of, length-slices_of, from_slices_of, to_slices_of}
 use Rattle.index_file.proofs.GroupLaws.{TermCounts, length-all_subjects, length-all_objects, terms_in-table, group_in-families}
 use Rattle.index_file.proofs.LayoutLaws.{length-layout_bytes, layout_in-layout_bytes, IsLaidOut-layout_bytes}
@@ -28,7 +27,7 @@ use Rattle.index_file.specs.Conditions.{AreCanonical, AreOrdered, rows_for, colu
 use Rattle.index_file.specs.declared.family.Family.{Family}
 use Rattle.index_file.specs.declared.family.Family.TheVariants.{So, Os, Ps, Po}
 
-length-joined : (xs ys : List (List ℕ)) → length (joined (xs ++ ys)) ≡ length (joined xs) + length (joined ys)
+pub length-joined : (xs ys : List (List ℕ)) → length (joined (xs ++ ys)) ≡ length (joined xs) + length (joined ys)
 length-joined [] ys = omega arith
 length-joined (x ∷ xs) ys = omega (arith, length-append x (joined (xs ++ ys)), length-append x (joined xs), length-joined xs ys)
 

@@ -9,16 +9,13 @@ use Rattle.bm_term.specs.declared.triple.Triple.{Triple}
 use Rattle.byte_tables.specs.Pieces.{CutWhole}
 use Rattle.cube_slices.specs.Slices.{IsSlice}
 use Rattle.run_rows.specs.declared.form.RowForm.{RowForm}
+use Rattle.term_numbers.specs.Limits.{max_triples}
 use Rattle.term_numbers.specs.Numbering.{Terms}
 use Rattle.term_numbers.specs.Order.{text_cmp, Numbered}
 use Rattle.index_file.specs.Image.{terms_in, group_in, triples_in, image_of}
 use Rattle.index_file.specs.Layout.{Layout, name, size_for, field, text_count, slice_count, text_starts, slice_starts, layout_in}
 use Rattle.index_file.specs.declared.family.Family.{Family}
 use Rattle.index_file.specs.declared.family.Family.TheVariants.{So, Os, Ps, Po}
-
--- an image has no more triples than this
-abbrev pub most_triples : ℕ
-most_triples = 8388608
 
 -- the bytes begin with the name and a known version, and have room for the numbers
 pub record HeaderIsKnown (version : ℕ) (bytes : List ℕ) : Type 0 where
@@ -30,7 +27,7 @@ pub record HeaderIsKnown (version : ℕ) (bytes : List ℕ) : Type 0 where
 pub record LengthsAgree (bytes : List ℕ) : Type 0 where
   pub whole : field bytes 8 ≡ length bytes
   pub parts : size_for (text_count bytes) (field bytes 6) (slice_count bytes) (field bytes 7) ≡ length bytes
-  pub few : field bytes 5 ≤ most_triples
+  pub few : field bytes 5 ≤ max_triples
 
 -- each term has its kind of text
 pub record AreCanonical (terms : Terms) : Type 0 where
@@ -103,7 +100,7 @@ pub record IsIndex (version : ℕ) (form : RowForm) (bytes : List ℕ) : Type 0 
 pub record IsStorable (version : ℕ) (form : RowForm) (graph : List Triple) : Type 0 where
   pub ascends : IsStrictlySortedBy triple_cmp graph
   pub triples : All IsRdfTriple graph
-  pub few : length graph ≤ most_triples
+  pub few : length graph ≤ max_triples
   pub short : length (image_of version form graph) < 2 ^ 32
 
 -- the bytes are the image of a graph within the limits

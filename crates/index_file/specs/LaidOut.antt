@@ -1,7 +1,8 @@
 -- What can be laid out in a file, and which bytes a layout is read from.
 use Rattle.std.specs.Prelude.{◌≡◌, ℕ, ◌+◌, ◌*◌, ◌^◌, ◌<◌, ◌≤◌, List, length}
 use Rattle.byte_tables.specs.Pieces.{CutWhole, HaveBytes}
-use Rattle.index_file.specs.Conditions.{most_triples, HeaderIsKnown, LengthsAgree}
+use Rattle.term_numbers.specs.Limits.{max_triples}
+use Rattle.index_file.specs.Conditions.{HeaderIsKnown, LengthsAgree}
 use Rattle.index_file.specs.Layout.{Layout, file_size, field, text_starts, slice_starts}
 
 -- a layout whose counts are those of its lists, each text and slice of which has a byte, and whose numbers fit
@@ -11,7 +12,7 @@ pub record CanBeLaidOut (l : Layout) : Type 0 where
   pub have_texts : HaveBytes l.texts
   pub have_slices : HaveBytes l.slices
   pub known : l.version < 2 ^ 32
-  pub few : l.triples ≤ most_triples
+  pub few : l.triples ≤ max_triples
   pub short : file_size l < 2 ^ 32
 
 -- the header is known, the lengths agree, and both tables are cut whole

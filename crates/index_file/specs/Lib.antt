@@ -2,5 +2,8 @@ pub mod Families
 pub mod Layout
 pub mod Image
 pub mod Conditions
+pub mod Damage
 pub mod LaidOut
+pub mod Version
+pub mod Stored
 pub mod steps

@@ -10,6 +10,7 @@ pub mod PlaceLaws
 pub mod RawLaws
 pub mod SpelledTriples
 pub mod Splits
+pub mod TakenTriples
 pub mod TermLaws
 pub mod TerminalLaws
 pub mod TerminalRules

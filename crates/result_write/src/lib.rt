@@ -17,3 +17,6 @@ mod write;
 pub use form::{Form, WriteEnd};
 pub use laws::{each_text_is_read_as_its_term, members_are_the_bound_columns_by_name};
 pub use write::write_rows;
+
+#[cfg(test)]
+mod tests;

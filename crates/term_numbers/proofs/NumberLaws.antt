@@ -1,16 +1,13 @@
 -- The numbers that are written are those of the numbering, and there are as many triples as the graph has.
-use Rattle.std.proofs.Common.{◌≡◌, ◌↔◌, ℕ, zero, suc, ◌+◌, ◌<◌, ◌≤◌, Bool, true, false, cond, not, bytes_eq, List, [], ◌∷◌, ◌++◌, Some, Contains, length, get_or, slice_index, map, filter, ◌&&◌, ◌||◌, fold, refl, sym, ap, ◌∙◌, subst, arith, true≢false, zero-add}
+use Rattle.std.proofs.Common.{◌≡◌, ◌↔◌, ℕ, zero, suc, ◌+◌, ◌<◌, Bool, true, false, cond, not, bytes_eq, List, [], ◌∷◌, ◌++◌, Some, Contains, length, get_or, slice_index, map, filter, ◌&&◌, ◌||◌, refl, sym, ap, ◌∙◌, subst, arith, true≢false, zero-add}
 use Rattle.std.proofs.lemmas.Cmp.{tied_itself}
 use Rattle.std.proofs.lemmas.List.{length-map, get_or-map}
 use Rattle.std.proofs.lemmas.List.Elements.{Contains-get_or, Contains-append_left, Contains-append_right}
 use Rattle.std.proofs.lemmas.Option.{slice_get-get_or, get_or_from_slice_get}
 use Rattle.std.specs.Cmp.Lexicographic.{same_text}
-use Rattle.std.specs.BTreeSet.{insert_key}
 use Rattle.std.specs.List.{slice_get, IsDistinct, AllByRecursion}
 use Rattle.std.specs.List.Sorted.{IsStrictlySortedBy}
-use Rattle.std.specs.Ordering.{match_ordering}
-use Rattle.std.specs.declared.cmp.Ordering.{Ordering}
-use Rattle.std.specs.declared.cmp.Ordering.TheVariants.{Less, Equal, Greater}
+use Rattle.std.specs.declared.cmp.Ordering.TheVariants.{Less, Equal}
 use Rattle.bm_term.specs.Graph.{triple_cmp, graph_of}
 use Rattle.bm_term.specs.SetOf.{IsSetOf, set_of}
 use Rattle.bm_term.specs.declared.triple.Triple.{Triple}
@@ -25,7 +22,7 @@ use Rattle.term_numbers.specs.held.Entries.{texts_in, is_shared, is_subject_alon
 use Rattle.term_numbers.specs.held.Numbered.{NodesHave, AreByNumber, MayBeNumbered}
 use Rattle.term_numbers.specs.held.Renumbered.{renumbered}
 use Rattle.term_numbers.specs.held.Seen.{IsSeen, AreSeen, role_of}
-use Rattle.term_numbers.proofs.Ascending.{text_cmp-total, text_cmp-exact, number_cmp-total, number_cmp-exact, set_of-is, set_of-same}
+use Rattle.term_numbers.proofs.Ascending.{text_cmp-total, text_cmp-exact, number_cmp-total, number_cmp-exact, set_of-is, set_of-same, length-set_of}
 use Rattle.term_numbers.proofs.EntryLaws.{same_some, place_inside, filter-Contains, PlacesDiffer-group}
 use Rattle.term_numbers.proofs.NumberingLaws.{from_map, Contains-map, map-same, among, among_from, not_among, bytes_eq-itself, one_place, part_in, Held, terms_held, terms_are, role_at}
 
@@ -235,24 +232,6 @@ numbering_is n p ps ts s b o e ids h made =
     λ i. record { terms = terms i; triples = triples i }
 
 -- ---- as many triples by numbers as there are
-
-length-insert : {X : Type 0} (cmp : X → X → Ordering) (set : List X) (x : X) → length (insert_key cmp set x) ≤ length set + 1
-length-insert cmp [] x = omega arith
-length-insert cmp (y ∷ set) x =
-    let rest = length-insert cmp set x in
-    elim (cmp x y) as (λ r. length (match_ordering r (x ∷ y ∷ set) (y ∷ set) (y ∷ insert_key cmp set x)) ≤ length (y ∷ set) + 1) [
-      | Less ↦ omega arith
-      | Equal ↦ omega arith
-      | Greater ↦ omega (arith, rest)
-    ]
-
-length-fold : {X : Type 0} (cmp : X → X → Ordering) (set xs : List X) → length (fold (insert_key cmp) set xs) ≤ length set + length xs
-length-fold cmp set [] = omega arith
-length-fold cmp set (x ∷ xs) = omega (arith, length-fold cmp (insert_key cmp set x) xs, length-insert cmp set x)
-
--- the set of a list is not longer than the list
-pub length-set_of : {X : Type 0} (cmp : X → X → Ordering) (xs : List X) → length (set_of cmp xs) ≤ length xs
-length-set_of cmp xs = omega (arith, length-fold cmp [] xs)
 
 -- a text of a set is in one of the two lists into which a test cuts it
 in_either : (l : List (List ℕ)) (q : List ℕ → Bool) (x : List ℕ) → is_among l x ≡ true → is_among (filter q l ++ filter (λ y. not (q y)) l) x ≡ true

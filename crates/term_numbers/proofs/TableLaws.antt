@@ -1,22 +1,13 @@
--- Laws of tables of texts: the starts and the bytes, and the texts, determine each other.
-use Rattle.std.proofs.Common.{◌≡◌, ℕ, zero, suc, ◌+◌, ◌-◌, ◌<◌, ◌≤◌, List, [], ◌∷◌, ◌++◌, Some, length, All, get_or, take, drop, refl, sym, ap, ◌∙◌, subst, arith, length-append, append-nil, add-one}
-use Rattle.std.proofs.lemmas.List.{take_at, drop_at}
+-- Laws of tables of texts: a text more, and the text at a place.
+use Rattle.std.proofs.Common.{◌≡◌, ℕ, zero, suc, ◌+◌, ◌-◌, ◌<◌, ◌≤◌, List, [], ◌∷◌, ◌++◌, Some, length, All, get_or, take, drop, sym, ap, ◌∙◌, subst, arith, length-append, append-nil, add-one}
 use Rattle.std.proofs.Math.Seq.{take-append_seam, drop-append-add}
 use Rattle.std.proofs.lemmas.List.Elements.{All-push, All-head, All-tail}
 use Rattle.std.proofs.lemmas.Grind.{flat_map-append, get_or_default_zero}
 use Rattle.std.specs.List.{slice_get}
-use Rattle.term_numbers.specs.held.Table.{joined, ends_from, starts_of, cut_from, pieces_at, IsCut, IsTextTable}
 use Rattle.bm_term.specs.Canonical.{IsCanonical}
-
-cut_from-ends_from : (from : ℕ) (ts : List (List ℕ)) → cut_from from (ends_from from ts) (joined ts) ≡ ts
-cut_from-ends_from from [] = refl
-cut_from-ends_from from (t ∷ ts) =
-    let gap : from + length t - from ≡ length t = omega arith in
-    rw gap (rw (take_at t (joined ts) (length t) refl, drop_at t (joined ts) (length t) refl) (ap (λ (us : List (List ℕ)). t ∷ us) (cut_from-ends_from (from + length t) ts)))
-
--- the starts of texts cut them out of their bytes
-pieces_at-starts_of : (ts : List (List ℕ)) → pieces_at (starts_of ts) (joined ts) ≡ ts
-pieces_at-starts_of ts = cut_from-ends_from 0 ts
+use Rattle.byte_tables.specs.Pieces.{joined, ends_from, starts_of, pieces_at}
+use Rattle.byte_tables.proofs.PieceLaws.{pieces_at-starts_of, length-starts_of}
+use Rattle.term_numbers.specs.held.Table.{IsCut, IsTextTable}
 
 -- one text more
 ends_from-push : (from : ℕ) (ts : List (List ℕ)) (t : List ℕ) → ends_from from (ts ++ t ∷ []) ≡ ends_from from ts ++ (from + length (joined (ts ++ t ∷ []))) ∷ []
@@ -82,17 +73,13 @@ between from (t ∷ ts) (suc i) low =
       text = rest.text ∙ ap (λ b. Some (take (start_at (from + length t) ts (suc i) - l) b)) (sym (ap (λ n. drop n (t ++ joined ts)) gap ∙ drop-append-add t (joined ts) (l - (from + length t))));
     }
 
-length-ends_from : (from : ℕ) (ts : List (List ℕ)) → length (ends_from from ts) ≡ length ts
-length-ends_from from [] = refl
-length-ends_from from (t ∷ ts) = ap suc (length-ends_from (from + length t) ts)
-
 pub record IsText (starts bytes : List ℕ) (ts : List (List ℕ)) (i low high : ℕ) : Type 0 where
   pub up : low ≤ high
   pub within : high ≤ length bytes
   pub text : slice_get ts i ≡ Some (take (high - low) (drop low bytes))
 
 pub length-starts : (starts bytes : List ℕ) (ts : List (List ℕ)) → IsCut starts bytes → pieces_at starts bytes ≡ ts → length starts ≡ length ts + 1
-length-starts starts bytes ts cut are = omega (arith, ap length cut.starts_are, ap length are, length-ends_from 0 (pieces_at starts bytes))
+length-starts starts bytes ts cut are = ap length (cut.starts_are ∙ ap starts_of are) ∙ length-starts_of ts
 
 pub text_between : (starts bytes : List ℕ) (ts : List (List ℕ)) (i low high : ℕ) → IsCut starts bytes → pieces_at starts bytes ≡ ts → i < length ts → low ≡ get_or starts i low → high ≡ get_or starts (i + 1) high
     → IsText starts bytes ts i low high

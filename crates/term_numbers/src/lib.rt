@@ -9,6 +9,7 @@
 mod entry;
 mod fault;
 mod group;
+mod limits;
 mod numbering;
 mod numbers;
 mod renumber;
@@ -19,6 +20,7 @@ mod table;
 mod text;
 
 pub use fault::NumberFault;
+pub use limits::{MAX_TRIPLES, limit_law};
 pub use numbering::{number, number_by};
 pub use numbers::Numbers;
 

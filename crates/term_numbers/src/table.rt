@@ -16,7 +16,8 @@ pub(crate) struct Table {
 
 impl Model for Table {
     ghost use Rattle.std.specs.Prelude.{List, ℕ};
-    ghost use Rattle.term_numbers.specs.held.Table.{pieces_at, IsTextTable};
+    ghost use Rattle.byte_tables.specs.Pieces.{pieces_at};
+    ghost use Rattle.term_numbers.specs.held.Table.{IsTextTable};
 
     ghost Value = { List (List ℕ) };
 

@@ -14,7 +14,8 @@ use Rattle.result_write.specs.ResultText.{result_text}
 use Rattle.bm_term.specs.declared.triple.Triple.{Triple}
 use Rattle.bm_world.specs.Meanings.{Files}
 use Rattle.bm_top.specs.Command.{Request, ask, request_of}
-use Rattle.bm_top.specs.Lines.{max_data_bytes, max_query_bytes, max_triples, usage_line, read_fault_line, limit_line, too_many_triples_line, bad_line_line, fault_line, pattern_line}
+use Rattle.term_numbers.specs.Limits.{max_triples}
+use Rattle.bm_top.specs.Lines.{max_data_bytes, max_query_bytes, usage_line, read_fault_line, limit_line, too_many_triples_line, bad_line_line, fault_line, pattern_line}
 use Rattle.bm_top.specs.Verdict.{Verdict, answered, refused}
 
 abbrev pub within : List ℕ → ℕ → List ℕ → (List ℕ → Verdict) → Verdict

@@ -2,16 +2,17 @@ use Rattle.std.proofs.Common.{ℕ, ◌<◌, ◌≤◌, List, length, ◌∙◌, 
 use Rattle.std.proofs.lemmas.Result.{err_from_is_err_and}
 use Rattle.bm_term.specs.declared.triple.Triple.{Triple}
 use Rattle.bm_term.specs.Graph.{graph_of}
+use Rattle.term_numbers.specs.Limits.{max_triples}
 use Rattle.bm_top.specs.steps.Data.{IsDataOf}
 use Rattle.bm_top.proofs.Deciding.{decided-data, decided-numbers, decided-query, decided-refused, decided-answered}
 use Rattle.bm_top.proofs.decide.decide.Goals as goal
 
 -- a graph with more triples than the limit, and one within it
 abbrev IsMany : List Triple → Type 0
-IsMany graph = 8388608 < length graph
+IsMany graph = max_triples < length graph
 
 abbrev IsWithin : List Triple → Type 0
-IsWithin graph = length graph ≤ 8388608
+IsWithin graph = length graph ≤ max_triples
 
 pub returns-in_err-triples : goal.returns-in_err-triples
 returns-in_err-triples g c =
