@@ -1,0 +1,4 @@
+pub mod CutLaws
+pub mod MeasureLaws
+pub mod PieceWriterLaws
+pub mod SortLaws

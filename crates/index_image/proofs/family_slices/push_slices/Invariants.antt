@@ -1,0 +1,12 @@
+use Rattle.std.proofs.Common.{map}
+use Rattle.std.specs.List.{range_with_len}
+use Rattle.index_file.specs.Image.{pair_slice}
+use Rattle.index_image.specs.steps.Sorting.{key_pairs, AreLeft}
+use Rattle.index_image.specs.steps.Writing.{PutsPieces}
+use Rattle.index_image.proofs.family_slices.push_slices.Given as goal
+
+abbrev pub invariant-loop-n : goal.invariant-loop-n
+invariant-loop-n l = record {
+  left : AreLeft l.n l.keys l.rest;
+  puts : PutsPieces l.initial.into l.into (map (λ i. pair_slice l.form (key_pairs l.keys i)) (range_with_len 0 l.n));
+}

@@ -1,0 +1,4 @@
+-- Carries proofs only: how the code goes about it.
+pub mod Measuring
+pub mod Sorting
+pub mod Writing
