@@ -1,12 +1,10 @@
 -- Laws of sorted keys that are walked slice by slice, and of how long their slices are.
-use Rattle.std.proofs.Common.{◌≡◌, ◌==◌, ℕ, zero, suc, ◌+◌, ◌-◌, ◌*◌, ◌^◌, ◌<◌, ◌≤◌, ◌≢◌, ◌⊎◌, inl, inr, Bool, true, false, cond, List, [], ◌∷◌, ◌++◌, length, take, drop, map, filter, refl, sym, ap, ◌∙◌, subst, arith, add-one, add-zero, zero-add, length-append, length-drop}
-use Rattle.std.proofs.lemmas.Bool.{cases_eq, eqb-true, eq-eqb, ne_eqb}
-use Rattle.std.proofs.lemmas.Bool.Decides.{nat_tests}
+use Rattle.std.proofs.Common.{◌≡◌, ◌==◌, ℕ, zero, suc, ◌+◌, ◌-◌, ◌*◌, ◌<◌, ◌≤◌, ◌≢◌, ◌⊎◌, inl, inr, Bool, cond, List, [], ◌∷◌, ◌++◌, length, take, drop, map, filter, refl, sym, ap, ◌∙◌, subst, arith, add-one, add-zero, zero-add, length-append, length-drop}
+use Rattle.std.proofs.lemmas.Bool.{cases_eq, eq-eqb, ne_eqb}
 use Rattle.std.proofs.lemmas.List.{length-map, length-take, map-append, append-nil}
 use Rattle.std.specs.List.{range_with_len}
 use Rattle.byte_tables.specs.Pieces.{joined}
-use Rattle.cube_slices.specs.Lines.{pairs_of}
-use Rattle.cube_slices.specs.Pairs.{PairsAscend, ArePairs, lines_of}
+use Rattle.cube_slices.specs.Pairs.{lines_of}
 use Rattle.cube_slices.specs.Slices.{bytes_of_lines, entries_of, slice_bytes}
 use Rattle.byte_tables.specs.Pairs.{pair_bytes}
 use Rattle.byte_tables.proofs.PairLaws.{length-flat_map-pair_bytes}

@@ -8,20 +8,20 @@ use Rattle.std.specs.List.{range_with_len, slice_get}
 use Rattle.cube_slices.specs.Slices.{slice_bytes}
 use Rattle.bm_term.specs.declared.triple.Triple.{Triple}
 use Rattle.byte_tables.specs.Numbers.{number_bytes}
-use Rattle.byte_tables.specs.Pieces.{joined, ends_from, starts_of}
+use Rattle.byte_tables.specs.Pieces.{joined, starts_of}
 use Rattle.run_rows.specs.declared.form.RowForm.{RowForm}
 use Rattle.run_rows.specs.declared.form.RowForm.TheVariants.{V1}
-use Rattle.term_numbers.specs.Numbering.{Numbering, term_table, numbering_of}
+use Rattle.term_numbers.specs.Numbering.{Numbering, term_table}
 use Rattle.term_numbers.specs.Order.{Numbered}
 use Rattle.term_numbers.proofs.NumberLaws.{as_many}
-use Rattle.index_image.proofs.CutLaws.{AreLeft-all, slices_are_short}
+use Rattle.index_image.proofs.CutLaws.{slices_are_short}
 use Rattle.index_file.proofs.FamilyLaws.{length-slices_of}
 use Rattle.index_file.proofs.LayoutLaws.{length-layout_bytes}
 use Rattle.index_image.proofs.PieceWriterLaws.{PutsPieces-then}
 use Rattle.index_image.proofs.SortLaws.{key_pairs-keys_of, length-keys_of, SlicesAscend-keys_of}
 use Rattle.index_file.proofs.WritingLaws.{length-joined, IsIndex-image_of}
 use Rattle.term_numbers.specs.Limits.{max_triples}
-use Rattle.index_file.specs.Conditions.{IsIndex, IsImageOf, IsStorable}
+use Rattle.index_file.specs.Conditions.{IsIndex, IsImageOf}
 use Rattle.index_file.specs.Families.{slices_of}
 use Rattle.index_file.specs.Image.{slices_for, family_pairs, all_pairs, pair_slice, layout_of, image_of}
 use Rattle.index_file.specs.Layout.{Layout, name, head_numbers, file_size, layout_bytes}

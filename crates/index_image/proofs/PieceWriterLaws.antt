@@ -1,10 +1,9 @@
 -- Laws of a table of pieces that is being written.
-use Rattle.std.proofs.Common.{◌≡◌, ℕ, zero, suc, ◌+◌, ◌-◌, ◌*◌, ◌^◌, ◌<◌, ◌≤◌, List, [], ◌∷◌, ◌++◌, length, take, drop, map, replicate, refl, sym, ap, ◌∙◌, subst, arith, append_assoc, length-append, length-drop}
-use Rattle.std.proofs.Math.Seq.{take-append_seam, drop-append_seam, drop-append-add}
+use Rattle.std.proofs.Common.{◌≡◌, ℕ, zero, suc, ◌+◌, ◌-◌, ◌*◌, ◌<◌, List, [], ◌∷◌, ◌++◌, length, take, drop, refl, sym, ap, ◌∙◌, arith, append_assoc, length-append, length-drop}
+use Rattle.std.proofs.Math.Seq.{take-append_seam, drop-append-add}
 use Rattle.std.proofs.lemmas.Grind.{flat_map-append}
-use Rattle.std.proofs.lemmas.List.{length-take, take-append-le, drop-append-le, take-take, drop-take, take-append-drop, drop-drop, append-nil, take_all}
+use Rattle.std.proofs.lemmas.List.{length-take, take-append-le, drop-append-le, take-take, drop-take, take-append-drop, drop-drop, append-nil}
 use Rattle.std.specs.Int.{w32, to_le_bytes}
-use Rattle.std.specs.List.{flat_map}
 use Rattle.byte_tables.specs.Numbers.{number_bytes}
 use Rattle.byte_tables.specs.Pieces.{joined, ends_from}
 use Rattle.index_image.specs.steps.Writing.{Writing, writing_at, IsWritingAt, with_end, PutsPieces}

@@ -156,7 +156,10 @@ fn text_of<'a>(index: &Index<'a>, value: u64) -> Result<&'a [u8], Fail> {
     if value >= nodes + u64::from(counts.predicates) {
         return Err("no such term")?;
     }
-    Ok(index.term(value as u32).bytes())
+    match u32::try_from(value) {
+        Ok(value) => Ok(index.term(value).bytes()),
+        Err(_) => Err("no such term")?,
+    }
 }
 
 /// The triple with these numbers, by name.

@@ -1,4 +1,4 @@
-use Rattle.std.proofs.Common.{◌≡◌, ℕ, ◌-◌, List, [], ◌∷◌, ◌++◌, length, ap, ◌∙◌, arith}
+use Rattle.std.proofs.Common.{◌≡◌, ℕ, ◌-◌, List, ◌++◌, length, ap, ◌∙◌, arith}
 use Rattle.byte_tables.specs.Numbers.{number_bytes}
 use Rattle.index_file.specs.Image.{layout_of}
 use Rattle.index_file.specs.Layout.{name, head_numbers}

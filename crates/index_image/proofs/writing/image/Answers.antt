@@ -1,4 +1,4 @@
-use Rattle.std.proofs.Common.{length, ap, sym, ◌∙◌, subst, arith}
+use Rattle.std.proofs.Common.{length, ap, arith}
 use Rattle.index_image.proofs.MeasureLaws.{IsImageOf-numbers, IsIndex-numbers}
 use Rattle.index_image.proofs.writing.image.Goals as goal
 

@@ -1,4 +1,4 @@
-use Rattle.std.proofs.Common.{◌≡◌, ℕ, ◌+◌, ◌-◌, ◌*◌, ◌++◌, length, take, drop, ap, ◌∙◌, arith, length-drop}
+use Rattle.std.proofs.Common.{◌≡◌, ◌+◌, ◌-◌, ◌*◌, ◌++◌, length, take, drop, ap, ◌∙◌, arith, length-drop}
 use Rattle.std.specs.Int.{w32, to_le_bytes}
 use Rattle.index_image.proofs.PieceWriterLaws.{end_written}
 use Rattle.index_image.proofs.piece_writer.PieceWriter.end_piece.Goals as goal
