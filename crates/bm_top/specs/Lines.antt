@@ -1,5 +1,7 @@
 -- The lines that the program writes to standard error, and the limits that they name. They are this project's own.
 use Rattle.std.specs.Prelude.{ℕ, List, [], ◌++◌, codes, decimal, Option, None, Some, slice_index_or, string_bytes}
+use Rattle.index_file.specs.Damage.{part_name}
+use Rattle.index_file.specs.declared.damaged.Part.{Part}
 use Rattle.sparql_parse.specs.declared.fault.QueryFault.{QueryFault}
 use Rattle.sparql_parse.specs.Causes.{cause_text, byte_of}
 use Rattle.well_designed.specs.declared.refusals.Refusal.{Refusal as PatternRefusal}
@@ -15,6 +17,10 @@ max_data_bytes = 536870912
 
 abbrev pub max_query_bytes : ℕ
 max_query_bytes = 1048576
+
+-- the bytes that an index file may have
+abbrev pub max_index_bytes : ℕ
+max_index_bytes = 4294967295
 
 abbrev pub usage_line : List ℕ
 usage_line = codes "usage: bitmat ask DATA QUERY tsv|json | load DATA INDEX | query INDEX QUERY tsv|json | check INDEX | explain INDEX QUERY | trial N\n"
@@ -33,6 +39,13 @@ limit_line name limit = codes "limit: " ++ (name ++ (codes " is longer than " ++
 
 abbrev pub too_many_triples_line : List ℕ
 too_many_triples_line = codes "limit: more than 8388608 triples\n"
+
+abbrev pub image_too_long_line : List ℕ
+image_too_long_line = codes "limit: the image is longer than 4294967295 bytes\n"
+
+-- the first part of an index whose condition does not hold
+abbrev pub damaged_line : Part → List ℕ
+damaged_line part = codes "index refused: " ++ (part_name part ++ codes "\n")
 
 abbrev pub bad_line_line : ℕ → List ℕ
 bad_line_line line = codes "data refused: line " ++ (decimal line ++ codes "\n")
@@ -79,6 +92,8 @@ refusal_status (refusals.BadLine line) = 2
 refusal_status (refusals.Query refusal) = 3
 refusal_status (refusals.TooLong name limit) = 8
 refusal_status refusals.TooManyTriples = 8
+refusal_status refusals.ImageTooLong = 8
+refusal_status (refusals.Damaged part) = 4
 
 abbrev pub refusal_line : Refusal → List ℕ
 refusal_line refusals.Usage = usage_line
@@ -86,3 +101,5 @@ refusal_line (refusals.BadLine line) = bad_line_line line
 refusal_line (refusals.Query refusal) = query_line refusal
 refusal_line (refusals.TooLong name limit) = limit_line name.now limit
 refusal_line refusals.TooManyTriples = too_many_triples_line
+refusal_line refusals.ImageTooLong = image_too_long_line
+refusal_line (refusals.Damaged part) = damaged_line part

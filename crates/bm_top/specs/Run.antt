@@ -1,13 +1,13 @@
 -- What the whole program promises, in terms of the verdict of its words on the files.
 -- Nothing here tells how data or a query is read.
-use Rattle.std.specs.Prelude.{◌≡◌, ◌≢◌, ◌⊎◌, ℕ, ◌++◌, List, take, Contains, Option, None, IsSomeAnd}
+use Rattle.std.specs.Prelude.{◌≡◌, ◌≢◌, ◌⊎◌, ℕ, ◌++◌, List, take, Contains, Option, None, IfSome, IsSomeAnd}
 use Rattle.bm_world.specs.declared.world.Faults.{Faults}
 use Rattle.bm_world.specs.Meanings.{Meanings}
-use Rattle.bm_world.specs.World.{Rose, Step}
+use Rattle.bm_world.specs.World.{NothingIsMade, Rose, Step}
 use Rattle.result_write.specs.declared.form.Form.{Form}
 use Rattle.bm_top.specs.Command.{names_read, request_of}
 use Rattle.bm_top.specs.Lines.{read_fault_line, write_fault_line, out_of_memory_line}
-use Rattle.bm_top.specs.Standard.{Asks, IsAnswer, IsVerdict}
+use Rattle.bm_top.specs.Standard.{Asks, AsksIndex, IsAnswer, IsIndexOfData, IsVerdict}
 use Rattle.bm_top.specs.Verdict.{Verdict, files_after, HasFrontOf}
 
 -- the text is printed whole where the status is 0, and nothing is written to standard error then; without a failing
@@ -71,6 +71,7 @@ OnlyComplains m n = n ≡ record m { complained = n.complained }
 -- all that the program promises for these words, between its entry and its exit
 pub record KeepsPromises (words : List (List ℕ)) (told told_now : Option Meanings) (before now : Faults) (status : ℕ) : Type 0 where
   pub answers : Step told told_now (λ m n. (form : Form) (bytes text printed : List ℕ) → Asks words m.files form bytes text → IsAnswer form bytes text printed → Prints printed before now status m n)
+  pub answers_of_index : Step told told_now (λ m n. (form : Form) (bytes index text printed : List ℕ) → AsksIndex words m.files form index text → IsIndexOfData bytes index → IsAnswer form bytes text printed → Prints printed before now status m n)
   pub usage : request_of words ≡ None → status ≡ 1
   pub usage_moves_nothing : Step told told_now (λ m n. request_of words ≡ None → OnlyComplains m n)
   pub complete : Step told told_now (λ m n. (verdict : Verdict) → IsVerdict words m.files verdict → IsComplete verdict before now status)
@@ -80,3 +81,4 @@ pub record KeepsPromises (words : List (List ℕ)) (told told_now : Option Meani
   pub causes : HasCauses words told before now status
   pub refusal_line : Step told told_now (λ m n. (verdict : Verdict) → IsVerdict words m.files verdict → Complains (names_read (request_of words)) verdict before now status m n)
   pub opens : Step told told_now (OpensInTurn (names_read (request_of words)))
+  pub nothing_is_made : IfSome told_now NothingIsMade

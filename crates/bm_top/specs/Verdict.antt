@@ -19,6 +19,10 @@ pub record Verdict : Type 0 where
 abbrev pub answered : List ℕ → Verdict
 answered text = record { status = 0; line = []; text = text; written = None }
 
+-- a text is printed, and the named file is written with these bytes
+abbrev pub stores : List ℕ → List ℕ → List ℕ → Verdict
+stores name bytes text = record { status = 0; line = []; text = text; written = Some (record { name = name; bytes = bytes }) }
+
 abbrev pub refused : ℕ → List ℕ → Verdict
 refused status line = record { status = status; line = line; text = []; written = None }
 

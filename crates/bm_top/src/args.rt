@@ -1,8 +1,9 @@
 //! The words of the program as the system gives them.
-ghost use Rattle.std.specs.Prelude.{◌≡◌, ◌⊎◌, drop, map, IfOk, IfErr};
+ghost use Rattle.std.specs.Prelude.{◌≡◌, ◌⊎◌, drop, map, IfOk, IfErr, IfSome};
 ghost use Rattle.std.specs.String.{string_bytes};
 ghost use Rattle.std.specs.Vec.Iter.{into_iter_items};
 ghost use Rattle.std.specs.IoError.{error_kind};
+ghost use Rattle.bm_world.specs.World.{NothingIsMade};
 ghost use Rattle.bm_top.specs.Args.{no_words_status};
 ghost use Rattle.bm_top.specs.Run.{KeepsPromises};
 
@@ -26,6 +27,7 @@ pub fn run_args<W: World, S: BuildHasher + Copy + Drop>(
     args: io::Result<env::Args>,
     world: &mut W,
 ) -> u8
+    requires { IfSome (W.told world.old) NothingIsMade }
     ensures words { IfOk args (λ given.
         KeepsPromises (map string_bytes (drop 1 (into_iter_items given))) (W.told world.old) (W.told world.new)
         (W.faults world.old) (W.faults world.new) result ⊎ (result ≡ 7)) }

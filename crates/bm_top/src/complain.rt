@@ -20,6 +20,8 @@ const OUT_OF_MEMORY: &[u8] = b"out of memory\n";
 
 const TOO_MANY_TRIPLES: &[u8] = b"limit: more than 8388608 triples\n";
 
+const IMAGE_TOO_LONG: &[u8] = b"limit: the image is longer than 4294967295 bytes\n";
+
 const REFUSED: &[u8] = b"query refused: ";
 
 const LINE_END: &[u8] = b"\n";
@@ -53,6 +55,11 @@ fn complain_refusal<W: World>(refusal: &Refusal<'_>, world: &mut W) -> Result<()
         Refusal::Usage => complain_all(world, USAGE),
         Refusal::Query { refusal } => complain_query(refusal, world),
         Refusal::TooManyTriples => complain_all(world, TOO_MANY_TRIPLES),
+        Refusal::ImageTooLong => complain_all(world, IMAGE_TOO_LONG),
+        Refusal::Damaged { part } => complain_pieces(
+            world,
+            &[b"index refused: ", part.name().as_bytes(), LINE_END],
+        ),
         Refusal::BadLine { line } => {
             complain_pieces(
                 world,

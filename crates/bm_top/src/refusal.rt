@@ -1,3 +1,4 @@
+use index_file::Part;
 use sparql_parse::QueryFault;
 
 /// Why a query is refused, with what its line names.
@@ -27,6 +28,10 @@ pub(crate) enum Refusal<'a> {
     TooLong { name: &'a str, limit: u64 },
     /// The data has more distinct triples than may be.
     TooManyTriples,
+    /// The index of the data would be too long.
+    ImageTooLong,
+    /// The file is no index: the first part whose condition does not hold.
+    Damaged { part: Part },
 }
 
 impl Refusal<'_> {
@@ -41,7 +46,8 @@ impl Refusal<'_> {
             Refusal::Usage => 1,
             Refusal::BadLine { .. } => 2,
             Refusal::Query { .. } => 3,
-            Refusal::TooLong { .. } | Refusal::TooManyTriples => 8,
+            Refusal::Damaged { .. } => 4,
+            Refusal::TooLong { .. } | Refusal::TooManyTriples | Refusal::ImageTooLong => 8,
         }
     }
 }

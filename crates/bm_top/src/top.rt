@@ -1,10 +1,10 @@
-ghost use Rattle.std.specs.Prelude.{◌≡◌, ◌≢◌, ℕ, List, None, map};
+ghost use Rattle.std.specs.Prelude.{◌≡◌, ℕ, List, None, IfSome, map};
 ghost use Rattle.std.specs.String.{string_bytes};
-ghost use Rattle.bm_world.specs.World.{Step};
+ghost use Rattle.bm_world.specs.World.{NothingIsMade, Step};
 ghost use Rattle.result_write.specs.declared.form.Form.{Form};
 ghost use Rattle.bm_top.specs.Command.{names_read, request_of};
 ghost use Rattle.bm_top.specs.Run.{Complains, HasCauses, IsComplete, IsHonest, KeepsPromises, LeavesFiles, OnlyComplains, OpensInTurn, Outputs, Prints};
-ghost use Rattle.bm_top.specs.Standard.{Asks, IsAnswer, IsVerdict};
+ghost use Rattle.bm_top.specs.Standard.{Asks, AsksIndex, IsAnswer, IsIndexOfData, IsVerdict};
 ghost use Rattle.bm_top.specs.Verdict.{Verdict};
 
 use crate::command::parse_words;
@@ -15,17 +15,25 @@ use std::alloc::Global;
 use std::hash::{BuildHasher, BuildHasherDefault, DefaultHasher};
 
 /// Does everything that the program does. `words` are the words after the program's name. The result is
-/// the status: 0 where the answers were printed; 1 where the words are no command; 2 where the data has a
-/// bad line; 3 where the query is refused; 5 where a file was not read, and 6 where the output was not
-/// written; 7 where memory ran out; 8 where a file is too long, or the data has too many triples.
+/// the status: 0 where all was printed, and written; 1 where the words are no command; 2 where the data has a
+/// bad line; 3 where the query is refused; 4 where the index is damaged; 5 where a file was not read, and 6 where the
+/// output or a file was not written; 7 where memory ran out; 8 where a file is too long, the data has too many triples,
+/// or its index would be too long. No file may be in the making, and none is after it.
 ///
 /// Each words and files have exactly one verdict (`each_command_has_one_verdict`). Clauses that speak of files or of
 /// what was printed hold where the world tells its content when the call begins and when it ends.
 pub fn run<W: World>(alloc: Global, words: &[String], world: &mut W) -> u8
+    requires { IfSome (W.told world.old) NothingIsMade }
+
     // The headline: what is printed is the text, in the form that is asked for, of the solutions of the query that the
     // one file denotes, over the set of triples that the other spells.
     ensures answers { Step (W.told world.old) (W.told world.new) (λ m n. (form : Form) (bytes text printed : List ℕ) →
         Asks (map string_bytes words.now) m.files form bytes text → IsAnswer form bytes text printed →
+        Prints printed (W.faults world.old) (W.faults world.new) result m n) }
+
+    // Its second half: where the index is that of the data, as `load` leaves it, what `query` prints is that very text.
+    ensures answers_of_index { Step (W.told world.old) (W.told world.new) (λ m n. (form : Form) (bytes index text printed : List ℕ) →
+        AsksIndex (map string_bytes words.now) m.files form index text → IsIndexOfData bytes index → IsAnswer form bytes text printed →
         Prints printed (W.faults world.old) (W.faults world.new) result m n) }
 
     // Words that are no command: status 1, and nothing moves but standard error.
@@ -62,6 +70,8 @@ pub fn run<W: World>(alloc: Global, words: &[String], world: &mut W) -> u8
     // Only the files that the command reads are opened, each once and in their order.
     ensures opens { Step (W.told world.old) (W.told world.new)
         (OpensInTurn (names_read (request_of (map string_bytes words.now)))) }
+
+    ensures nothing_is_made { IfSome (W.told world.new) NothingIsMade }
 {
     let hashers: BuildHasherDefault<DefaultHasher> = BuildHasherDefault::new();
     perform_words(alloc, hashers, words, world)
@@ -74,6 +84,7 @@ pub(crate) fn perform_words<W: World, S: BuildHasher + Copy + Drop>(
     words: &[String],
     world: &mut W,
 ) -> u8
+    requires { IfSome (W.told world.old) NothingIsMade }
     ensures { KeepsPromises (map string_bytes words.now) (W.told world.old) (W.told world.new)
         (W.faults world.old) (W.faults world.new) result }
 {

@@ -1,5 +1,5 @@
 -- Why bytes are no index: the first of the seven conditions that does not hold.
-use Rattle.std.specs.Prelude.{ℕ, ◌<◌, List}
+use Rattle.std.specs.Prelude.{ℕ, ◌<◌, List, codes}
 use Rattle.run_rows.specs.declared.form.RowForm.{RowForm}
 use Rattle.index_file.specs.Conditions.{HeaderIsKnown, LengthsAgree, TermsAreOrdered, DirectoryIsOrdered, RowsAreEncodings, CountsAgree, FamiliesAgree}
 use Rattle.index_file.specs.Layout.{layout_in}
@@ -30,3 +30,13 @@ part_number Agreement = 6
 pub record IsFirstFailing (version : ℕ) (form : RowForm) (bytes : List ℕ) (part : Part) : Type 0 where
   pub fails : Holds version form bytes part → ⊥
   pub before : (earlier : Part) → part_number earlier < part_number part → Holds version form bytes earlier
+
+-- the name of a part
+abbrev pub part_name : Part → List ℕ
+part_name Header = codes "header"
+part_name Length = codes "length"
+part_name Terms = codes "terms"
+part_name Directory = codes "directory"
+part_name Rows = codes "rows"
+part_name Counts = codes "counts"
+part_name Agreement = codes "agreement"

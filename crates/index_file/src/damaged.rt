@@ -1,4 +1,6 @@
 //! Why bytes are no index.
+ghost use Rattle.std.specs.Prelude.{◌≡◌};
+ghost use Rattle.index_file.specs.Damage.{part_name};
 
 use std::fmt;
 use thiserror::Error;
@@ -22,17 +24,26 @@ pub enum Part {
     Agreement,
 }
 
+impl Part {
+    /// The name of the part.
+    pub fn name(self) -> &'static str
+        ensures { result.now ≡ part_name self }
+    {
+        match self {
+            Part::Header => "header",
+            Part::Length => "length",
+            Part::Terms => "terms",
+            Part::Directory => "directory",
+            Part::Rows => "rows",
+            Part::Counts => "counts",
+            Part::Agreement => "agreement",
+        }
+    }
+}
+
 impl fmt::Display for Part {
     fn fmt<W: fmt::Write>(&self, f: &mut fmt::Formatter<W>) -> fmt::Result {
-        match self {
-            Part::Header => write!(f, "header"),
-            Part::Length => write!(f, "length"),
-            Part::Terms => write!(f, "terms"),
-            Part::Directory => write!(f, "directory"),
-            Part::Rows => write!(f, "rows"),
-            Part::Counts => write!(f, "counts"),
-            Part::Agreement => write!(f, "agreement"),
-        }
+        write!(f, "{}", self.name())
     }
 }
 
@@ -40,5 +51,6 @@ impl fmt::Display for Part {
 #[derive(Clone, Copy, PartialEq, Eq, Debug, Drop, Error)]
 #[error("the index is damaged: {part}")]
 pub struct Damaged {
+    /// The first part whose condition does not hold.
     pub part: Part,
 }
