@@ -40,5 +40,6 @@ impl fmt::Display for Part {
 #[derive(Clone, Copy, PartialEq, Eq, Debug, Drop, Error)]
 #[error("the index is damaged: {part}")]
 pub struct Damaged {
+    /// The part.
     pub part: Part,
 }
