@@ -6,7 +6,7 @@ use Rattle.bm_term.specs.declared.triple.Triple.{Triple}
 use Rattle.byte_tables.specs.Numbers.{IsBytes}
 use Rattle.run_rows.specs.declared.form.RowForm.TheVariants.{V1}
 use Rattle.index_file.proofs.GroupLaws.{TermCounts-terms_in, term_table-terms_in}
-use Rattle.index_file.proofs.ImageLaws.{index_exactly, image_stands_for}
+use Rattle.index_file.proofs.ImageLaws.{index_exactly, image_stands_for, IsStorable-graph_in}
 use Rattle.index_file.proofs.ReadingLaws.{IsRead, IsRead-index, numbering_read, pairs_again, count_in_order}
 use Rattle.index_file.proofs.StoredLaws.{All-canonical}
 use Rattle.index_file.specs.Conditions.{HeaderIsKnown, LengthsAgree, TermsAreOrdered, DirectoryIsOrdered, RowsAreEncodings, CountsAgree, FamiliesAgree, AreCanonical, IsIndex, IsImageOf}
@@ -17,7 +17,8 @@ use Rattle.index_file.specs.Stored.{stored_of, counts_of}
 use Rattle.index_file.specs.declared.damaged.Part.{Part}
 use Rattle.index_file.specs.declared.damaged.Part.TheVariants.{Header, Length, Terms, Directory, Rows, Counts, Agreement}
 use Rattle.index_file.specs.steps.Sections.{counts_in}
-use Rattle.index_file.specs.steps.Stores.{IsStored, stored_in}
+use Rattle.index_file.specs.Version.{NumbersSomeGraph}
+use Rattle.index_file.specs.steps.Stores.{IsStored, numbering_in, stored_in}
 
 version_is : (bytes : List ℕ) → (layout_in bytes).version ≡ field bytes 0
 unfolding layout_in
@@ -36,6 +37,21 @@ counts_are l read =
       triples = count_in_order V1 l read i;
     }
 
+-- it is the numbering of a graph
+numbers_some_graph : (bytes : List ℕ) → IsBytes bytes → IsIndex 1 V1 bytes → NumbersSomeGraph (numbering_in (layout_in bytes))
+numbers_some_graph bytes fits index =
+    let storable = IsStorable-graph_in 1 V1 bytes (omega arith) fits index in
+    let read : IsRead V1 (layout_in bytes) = IsRead-index 1 V1 bytes (omega arith) fits index in
+    record {
+      graph = graph_in V1 bytes;
+      numbers = record {
+        ascends = storable.ascends;
+        triples = storable.triples;
+        numbered = sym (numbering_read V1 (layout_in bytes) read);
+      };
+      few = storable.few;
+    }
+
 -- an index is one that can be held
 pub IsStored-index : (bytes : List ℕ) → IsBytes bytes → IsIndex 1 V1 bytes → IsStored (layout_in bytes)
 IsStored-index bytes fits index =
@@ -47,6 +63,7 @@ IsStored-index bytes fits index =
       ordered = index.terms.ordered;
       rows = index.rows;
       pairs = pairs_again V1 l read;
+      numbers = numbers_some_graph bytes fits index;
     }
 
 -- and it is that of the graph that the bytes stand for

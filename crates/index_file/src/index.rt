@@ -1,6 +1,6 @@
 //! An index, borrowed from its bytes.
 
-ghost use Rattle.std.specs.Prelude.{◌≡◌, ◌↔◌, ◌<◌, List, length, Contains, IfErr, IfNone, IfOk, IfSome, IsOk, Ok, Some};
+ghost use Rattle.std.specs.Prelude.{◌≡◌, ◌↔◌, ◌^◌, ◌<◌, List, length, Contains, IfErr, IfNone, IfOk, IfSome, IsOk, Ok, Some};
 ghost use Rattle.std.specs.List.{slice_get};
 ghost use Rattle.bm_term.specs.TermRef.{text_of};
 ghost use Rattle.bm_term.specs.declared.triple.Triple.{Triple};
@@ -12,6 +12,7 @@ ghost use Rattle.index_file.specs.Damage.{IsFirstFailing};
 ghost use Rattle.index_file.specs.Families.{pairs_in};
 ghost use Rattle.index_file.specs.Image.{graph_in, slices_for};
 ghost use Rattle.index_file.specs.Stored.{counts_of, stored_of};
+ghost use Rattle.index_file.specs.Version.{NumbersSomeGraph};
 
 use crate::counts::IndexCounts;
 use crate::damaged::Damaged;
@@ -71,10 +72,16 @@ impl<'a> Index<'a> {
 
     /// Its version, and how many terms of each group and how many triples it has.
     pub fn counts(&self) -> IndexCounts
-        ensures { result ≡ counts_of self.now }
+        ensures counts { result ≡ counts_of self.now }
+        ensures few_terms { length (term_table self.now.numbering.terms) < 2 ^ 32 }
     {
         self.parts.counts()
     }
+
+    /// An index is always that of a graph within the limit. The call does nothing: its contract is the fact.
+    pub fn is_of_a_graph(&self)
+        ensures { NumbersSomeGraph self.now.numbering }
+    {}
 
     /// The term at a place of the term table.
     pub fn term(&self, value: u32) -> TermRef<'a>
