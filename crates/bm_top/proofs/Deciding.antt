@@ -1,5 +1,6 @@
 -- The verdict once both files have been read.
-use Rattle.std.proofs.Common.{◌≡◌, ◌≢◌, ℕ, ◌≤◌, ◌<◌, List, None, Ok, Err, inl, inr, refl, sym, ◌∙◌, ap, length}
+use Rattle.std.proofs.Common.{◌≡◌, ◌≢◌, ◌⊎◌, ℕ, ◌≤◌, ◌<◌, List, Option, Some, None, Ok, Err, inl, inr, refl, sym, ◌∙◌, ap, length}
+use Rattle.std.proofs.lemmas.Bool.{cases_lt}
 use Rattle.bm_term.specs.declared.triple.Triple.{Triple}
 use Rattle.alg_model.specs.declared.query.Query.{Query}
 use Rattle.alg_model.specs.Answers.{answers_to}
@@ -20,12 +21,15 @@ use Rattle.term_numbers.specs.Limits.{max_triples}
 use Rattle.bm_top.specs.declared.decide.Undecided.{Undecided}
 use Rattle.bm_top.specs.declared.decide.Undecided.TheVariants as undecided
 use Rattle.bm_top.specs.Lines.{fault_line}
-use Rattle.bm_top.specs.Verdict.{answered, refused}
+use Rattle.bm_top.specs.Standard.{IsAnswerOrRefusal, IsDecidedByData}
+use Rattle.bm_top.specs.Verdict.{Verdict, answered, refused}
 use Rattle.bm_top.specs.steps.Data.{IsDataOf}
 use Rattle.bm_top.specs.steps.Decide.{IsAcceptance, IsDecided, from_data, from_numbers, from_query}
 use Rattle.bm_top.specs.steps.Printing.{answer_verdict}
 use Rattle.bm_top.specs.steps.VerdictOf.{accepting, answering, deciding, decided, graph_in}
 use Rattle.bm_top.proofs.Counting.{few-counted, many-counted}
+use Rattle.bm_top.proofs.ReadData.{is-answering, read-graph}
+use Rattle.bm_top.proofs.Verdicts.{bad_then, good_then, many_then}
 
 -- the data was refused
 pub decided-data : (bytes text : List ℕ) (fault : FeedFault) → IsDataOf bytes (Err fault) → IsDecided bytes text (Err (from_data fault))
@@ -74,6 +78,7 @@ module _ (bytes text : List ℕ) (good : first_bad bytes ≡ None) (few : length
     pub decided-refused : (why : Undecided) → IsAcceptance (abstract_of query) (Err why) → IsDecided bytes text (Err why)
     decided-refused (undecided.BadLine line) is = absurd is
     decided-refused undecided.TooManyTriples is = absurd is
+    decided-refused undecided.ImageTooLong is = absurd is
     decided-refused (undecided.Query refusal) (cause, refuses, line) =
         λ form. taken form ∙ ap (answering form (graph_in bytes)) read ∙ ap (accepting form (graph_in bytes) (abstract_of query)) refuses ∙ ap (refused 3) (sym line)
     decided-refused undecided.Memory is = tt
@@ -83,3 +88,19 @@ module _ (bytes text : List ℕ) (good : first_bad bytes ≡ None) (few : length
     decided-answered graph same accepted form =
         taken form ∙ ap (answering form (graph_in bytes)) read ∙ ap (accepting form (graph_in bytes) (abstract_of query)) accepted
         ∙ ap (λ (g : List Triple). answered (result_text form (abstract_of query) (answers_to (abstract_of query) g))) (sym same)
+
+-- the verdict of data and a query is the one that is read
+module _ (form : Form) (bytes text : List ℕ) where
+  decided_by : (bad : Option ℕ) (many : (max_triples < length (graph_in bytes)) ⊎ (length (graph_in bytes) ≤ max_triples)) (verdict : Verdict) → first_bad bytes ≡ bad → IsDecidedByData bytes (IsAnswerOrRefusal form text) verdict
+      → verdict ≡ deciding form bad (graph_in bytes) (query_reading text)
+  decided_by (Some number) many verdict found is = bad_then bytes (IsAnswerOrRefusal form text) number verdict found is
+  decided_by None (inl many) verdict found is =
+      many_then bytes (IsAnswerOrRefusal form text) (graph_in bytes) verdict (read-graph bytes found) many is
+      ∙ sym (many-counted (graph_in bytes) (answering form (graph_in bytes) (query_reading text)) many)
+  decided_by None (inr few) verdict found is =
+      is-answering form text (graph_in bytes) verdict (good_then bytes (IsAnswerOrRefusal form text) (graph_in bytes) verdict (read-graph bytes found) few is)
+      ∙ sym (few-counted (graph_in bytes) (answering form (graph_in bytes) (query_reading text)) few)
+
+  pub is-decided : (verdict : Verdict) → IsDecidedByData bytes (IsAnswerOrRefusal form text) verdict → verdict ≡ decided form bytes text
+  unfolding decided
+  is-decided verdict is = decided_by (first_bad bytes) (cases_lt max_triples (length (graph_in bytes))) verdict refl is

@@ -3,12 +3,15 @@ use Rattle.std.proofs.Common.{◌≡◌, ℕ, List, true, [], ◌∷◌, ◌++�
 use Rattle.result_write.specs.declared.form.Form.TheVariants.{Tsv, Json}
 use Rattle.query_grammar.specs.declared.words.Word.TheVariants as words
 use Rattle.sparql_parse.specs.declared.fault.QueryFault.TheVariants as faults
-use Rattle.bm_top.specs.Command.{ask, request_of}
+use Rattle.index_file.specs.declared.damaged.Part.TheVariants as parts
+use Rattle.bm_top.specs.Command.{ask, load, query, check, request_of}
 use Rattle.bm_world.specs.Meanings.{Files}
 use Rattle.well_designed.specs.declared.refusals.Refusal.TheVariants as patterns
-use Rattle.bm_top.specs.Lines.{fault_line, pattern_line, write_fault_line, out_of_memory_line}
+use Rattle.bm_top.specs.Lines.{damaged_line, fault_line, image_too_long_line, pattern_line, write_fault_line, out_of_memory_line}
+use Rattle.bm_top.specs.Standard.{IsVerdict}
+use Rattle.bm_top.specs.Texts.{stored_text}
 use Rattle.bm_top.specs.Verdict.{answered, refused}
-use Rattle.bm_top.specs.steps.VerdictOf.{counting, within, reading_file, deciding, verdict_of}
+use Rattle.bm_top.specs.steps.VerdictOf.{counting, deciding}
 
 -- the one command in both forms, a form that is none, and a word too few
 command : request_of (codes "ask" ∷ codes "d" ∷ codes "q" ∷ codes "tsv" ∷ []) ≡ Some (ask (codes "d") (codes "q") Tsv)
@@ -24,18 +27,31 @@ too_few : request_of (codes "ask" ∷ codes "d" ∷ codes "q" ∷ []) ≡ None
 too_few = refl
 
 -- no words are no command, whatever the files are
-no_words : (files : Files) → verdict_of [] files ≡ refused 1 (codes "usage: bitmat ask DATA QUERY tsv|json | load DATA INDEX | query INDEX QUERY tsv|json | check INDEX | explain INDEX QUERY | trial N\n")
+no_words : (files : Files) → IsVerdict [] files (refused 1 (codes "usage: bitmat ask DATA QUERY tsv|json | load DATA INDEX | query INDEX QUERY tsv|json | check INDEX | explain INDEX QUERY | trial N\n"))
 no_words files = refl
 
--- a file that is missing, one that is too long, and one that is not
-missing_file : reading_file (codes "d") 3 None answered ≡ refused 5 (codes "read fault: d\n")
-missing_file = refl
+-- the commands over an index, and words that are none
+load_command : request_of (codes "load" ∷ codes "d" ∷ codes "i" ∷ []) ≡ Some (load (codes "d") (codes "i"))
+load_command = refl
 
-too_long : within (codes "q") 3 (codes "abcd") answered ≡ refused 8 (codes "limit: q is longer than " ++ (decimal 3 ++ codes " bytes\n"))
-too_long = refl
+query_command : request_of (codes "query" ∷ codes "i" ∷ codes "q" ∷ codes "json" ∷ []) ≡ Some (query (codes "i") (codes "q") Json)
+query_command = refl
 
-not_too_long : within (codes "q") 3 (codes "abc") answered ≡ answered (codes "abc")
-not_too_long = refl
+check_command : request_of (codes "check" ∷ codes "i" ∷ []) ≡ Some (check (codes "i"))
+check_command = refl
+
+unknown_command : request_of (codes "save" ∷ codes "d" ∷ codes "i" ∷ []) ≡ None
+unknown_command = refl
+
+-- what `load` and `check` print, and the line of an index that is damaged
+stored_line : stored_text 2 272 ≡ codes "stored triples " ++ (decimal 2 ++ (codes " bytes " ++ (decimal 272 ++ codes "\n")))
+stored_line = refl
+
+rows_line : damaged_line parts.Rows ≡ codes "index refused: rows\n"
+rows_line = refl
+
+too_long_line : image_too_long_line ≡ codes "limit: the image is longer than 4294967295 bytes\n"
+too_long_line = refl
 
 -- a bad line goes before a query that is refused
 bad_line : deciding Json (Some 12) [] (Err (faults.Syntax 0)) ≡ refused 2 (codes "data refused: line " ++ (decimal 12 ++ codes "\n"))

@@ -4,7 +4,11 @@ pub mod Distinct
 pub mod Examples
 pub mod LinePieces
 pub mod Lists
+pub mod Over
 pub mod Promised
 pub mod Promises
+pub mod ReadData
 pub mod StandardLaws
 pub mod StepsDone
+pub mod Storing
+pub mod Verdicts

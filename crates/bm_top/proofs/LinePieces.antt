@@ -3,7 +3,7 @@ use Rattle.std.proofs.Common.{◌≡◌, ℕ, zero, suc, ◌+◌, ◌<◌, ◌�
 use Rattle.std.proofs.lemmas.Grind.{common_steps, flat_map-append}
 use Rattle.std.proofs.lemmas.List.{take_more, append-nil}
 use Rattle.std.specs.List.{flat_map}
-use Rattle.bm_world.specs.Meanings.{Meanings, with_complained}
+use Rattle.bm_world.specs.Meanings.{Meanings}
 use Rattle.bm_world.specs.World.{AppendsSome}
 use Rattle.bm_world.proofs.Appending.{AppendsUpTo}
 use Rattle.sparql_parse.specs.Causes.{cause_text, byte_of}
@@ -27,8 +27,8 @@ pub pieces-whole : (pieces : List (Bor (List ℕ))) (i : ℕ) → length pieces 
 pieces-whole pieces i h = let whole : take i pieces ≡ pieces = grind (arith, common_steps) in ap all_of whole
 
 -- what has come, and what is left: a piece and those after it
-pub AppendsUpTo-pieces : (pieces : List (Bor (List ℕ))) (i : ℕ) (d : Bor (List ℕ)) → i < length pieces → (m n : Meanings) → n ≡ with_complained m (all_of (take i pieces)) → AppendsUpTo with_complained (all_of pieces) ((get_or pieces i d).now ++ all_of (drop (suc i) pieces)) m n
-AppendsUpTo-pieces pieces i d h m n moved = record {
+pub AppendsUpTo-pieces : (change : Meanings → List ℕ → Meanings) (pieces : List (Bor (List ℕ))) (i : ℕ) (d : Bor (List ℕ)) → i < length pieces → (m n : Meanings) → n ≡ change m (all_of (take i pieces)) → AppendsUpTo change (all_of pieces) ((get_or pieces i d).now ++ all_of (drop (suc i) pieces)) m n
+AppendsUpTo-pieces change pieces i d h m n moved = record {
   front = all_of (take i pieces);
   whole = ap (λ rest. all_of (take i pieces) ++ all_of rest) (sym (drop-cons pieces i d h))
       ∙ sym (flat_map-append (λ piece. piece.now) (take i pieces) (drop i pieces)) ∙ ap all_of (take-append-drop i pieces);
@@ -41,10 +41,10 @@ front_of zero xs ys = (0, refl)
 front_of (suc n) [] ys = (0, refl)
 front_of (suc n) (x ∷ xs) ys = let rest = front_of n xs ys in (suc rest.0, ap (λ zs. x ∷ zs) rest.1)
 
-pub AppendsSome-wider : (piece later : List ℕ) (m n : Meanings) → AppendsSome with_complained piece m n → AppendsSome with_complained (piece ++ later) m n
-AppendsSome-wider piece later m n (count, moved) =
+pub AppendsSome-wider : (change : Meanings → List ℕ → Meanings) (piece later : List ℕ) (m n : Meanings) → AppendsSome change piece m n → AppendsSome change (piece ++ later) m n
+AppendsSome-wider change piece later m n (count, moved) =
     let front = front_of count piece later in
-    (front.0, moved ∙ ap (with_complained m) (sym front.1))
+    (front.0, moved ∙ ap (change m) (sym front.1))
 
 -- the pieces of the line of a fault that has a byte
 pub fault-pieces : (fault : QueryFault) (cause word number : List ℕ) (at : ℕ) → cause ++ word ≡ cause_text fault → Some at ≡ byte_of fault → number ≡ decimal at

@@ -13,6 +13,7 @@ use Rattle.bm_top.specs.declared.refusal.Refusal.TheVariants as refusals
 use Rattle.bm_top.specs.Lines.{refusal_status, refusal_line, read_fault_line}
 use Rattle.bm_top.specs.Verdict.{Verdict, refused, files_after, HasFrontOf}
 use Rattle.bm_top.specs.steps.Ending.{EndsSo, HasReason, Leaves, ReadsOnly, status_of, line_of}
+use Rattle.bm_top.proofs.Verdicts.{One}
 use Rattle.bm_top.specs.Run.{IsComplete, IsHonest, LeavesFiles, OnlyComplains, OpensInTurn, Outputs, ComplainsLine, Complains}
 
 -- the status of a refusal is none of 0, 5, 6 and 7
@@ -27,6 +28,8 @@ refusal_status-is refusals.Usage = record { no0 = λ e. absurd (omega arith); no
 refusal_status-is (refusals.BadLine line) = record { no0 = λ e. absurd (omega arith); no5 = λ e. absurd (omega arith); no6 = λ e. absurd (omega arith); no7 = λ e. absurd (omega arith) }
 refusal_status-is (refusals.Query refusal) = record { no0 = λ e. absurd (omega arith); no5 = λ e. absurd (omega arith); no6 = λ e. absurd (omega arith); no7 = λ e. absurd (omega arith) }
 refusal_status-is (refusals.TooLong name limit) = record { no0 = λ e. absurd (omega arith); no5 = λ e. absurd (omega arith); no6 = λ e. absurd (omega arith); no7 = λ e. absurd (omega arith) }
+refusal_status-is refusals.ImageTooLong = record { no0 = λ e. absurd (omega arith); no5 = λ e. absurd (omega arith); no6 = λ e. absurd (omega arith); no7 = λ e. absurd (omega arith) }
+refusal_status-is (refusals.Damaged part) = record { no0 = λ e. absurd (omega arith); no5 = λ e. absurd (omega arith); no6 = λ e. absurd (omega arith); no7 = λ e. absurd (omega arith) }
 refusal_status-is refusals.TooManyTriples = record { no0 = λ e. absurd (omega arith); no5 = λ e. absurd (omega arith); no6 = λ e. absurd (omega arith); no7 = λ e. absurd (omega arith) }
 
 -- a command keeps a file that is being made, and complaints
@@ -90,6 +93,10 @@ OnlyComplains-said line said k n complained = (said_so line said k n complained)
 -- complaints open no file
 pub OpensInTurn-said : (names : List (List ℕ)) (line : List ℕ) (said : Result (Unit {0}) Failed) (m k n : Meanings) → OpensInTurn names m k → AppendsAll with_complained line said k n → OpensInTurn names m n
 OpensInTurn-said names line said m k n (count, opened) complained = (count, (said_so line said k n complained).opened ∙ opened)
+
+-- complaints make no file
+pub made-said : (line : List ℕ) (said : Result (Unit {0}) Failed) (k n : Meanings) → AppendsAll with_complained line said k n → n.made ≡ k.made
+made-said line said k n complained = (said_so line said k n complained).made
 
 -- nothing was printed
 unprinted : (verdict : Verdict) (status : ℕ) (line : List ℕ) (said : Result (Unit {0}) Failed) (m k n : Meanings) → status ≢ 0 → status ≢ 6 → status ≢ 7 → k.printed ≡ m.printed → AppendsAll with_complained line said k n → Outputs verdict status m n
@@ -158,18 +165,20 @@ told_here : (told : Option Meanings) (m : Meanings) (P : Meanings → Type 0) �
 told_here None m P is h = absurd h
 told_here (Some k) m P is h = let here : k ≡ m = cc in subst P here h
 
-module _ (verdict : Files → Verdict) (names : List (List ℕ)) (told : Option Meanings) (before mid now : Faults) (reads : now.reads ≡ mid.reads) where
+module _ (IsOf : Files → Verdict → Type 0) (one : (files : Files) → One (IsOf files)) (names : List (List ℕ)) (told : Option Meanings) (before mid now : Faults) (reads : now.reads ≡ mid.reads) where
   -- where no read failed by the end, the line of a file that was not read is that of the verdict
-  missing_line : (name : List ℕ) (m : Meanings) → told ≡ Some m → ¬ Rose before.reads now.reads → Rose before.reads mid.reads ⊎ IsSomeAnd told (λ w. verdict w.files ≡ refused 5 (read_fault_line name)) → verdict m.files ≡ refused 5 (read_fault_line name)
-  missing_line name m is quiet (inl rose) = absurd (quiet (subst (Rose before.reads) (sym reads) rose))
-  missing_line name m is quiet (inr gone) = told_here told m (λ w. verdict w.files ≡ refused 5 (read_fault_line name)) is gone
+  missing_line : (name : List ℕ) (m : Meanings) (verdict : Verdict) → told ≡ Some m → IsOf m.files verdict → ¬ Rose before.reads now.reads
+      → Rose before.reads mid.reads ⊎ IsSomeAnd told (λ w. IsOf w.files (refused 5 (read_fault_line name))) → verdict ≡ refused 5 (read_fault_line name)
+  missing_line name m verdict is decides quiet (inl rose) = absurd (quiet (subst (Rose before.reads) (sym reads) rose))
+  missing_line name m verdict is decides quiet (inr gone) =
+      one m.files verdict (refused 5 (read_fault_line name)) decides (told_here told m (λ w. IsOf w.files (refused 5 (read_fault_line name))) is gone)
 
-  pub IsComplete-ended : now.writes ≡ mid.writes → (ending : Ending) (m k : Meanings) → told ≡ Some m → EndsSo (verdict m.files) ending m k → HasReason verdict names told before mid ending → IsComplete (verdict m.files) before now (status_of ending)
-  IsComplete-ended writes ends.Done m k is ended had = λ _ _. inl (sym ended.0)
-  IsComplete-ended writes (ends.Refused refusal) m k is ended had = λ _ _. inl (sym (ap (λ (v : Verdict). v.status) ended.0))
-  IsComplete-ended writes (ends.ReadFault name) m k is ended had = λ no_read _. inl (sym (ap (λ (v : Verdict). v.status) (missing_line name.now m is no_read had.reason.1)))
-  IsComplete-ended writes ends.WriteFault m k is ended had = λ _ no_write. absurd (no_write (subst (Rose before.writes) (sym writes) had.reason))
-  IsComplete-ended writes ends.Memory m k is ended had = λ _ _. inr refl
+  pub IsComplete-ended : now.writes ≡ mid.writes → (ending : Ending) (m k : Meanings) (verdict : Verdict) → told ≡ Some m → IsOf m.files verdict → EndsSo verdict ending m k → HasReason IsOf names told before mid ending → IsComplete verdict before now (status_of ending)
+  IsComplete-ended writes ends.Done m k verdict is decides ended had = λ _ _. inl (sym ended.0)
+  IsComplete-ended writes (ends.Refused refusal) m k verdict is decides ended had = λ _ _. inl (sym (ap (λ (v : Verdict). v.status) ended.0))
+  IsComplete-ended writes (ends.ReadFault name) m k verdict is decides ended had = λ no_read _. inl (sym (ap (λ (v : Verdict). v.status) (missing_line name.now m verdict is decides no_read had.reason.1)))
+  IsComplete-ended writes ends.WriteFault m k verdict is decides ended had = λ _ no_write. absurd (no_write (subst (Rose before.writes) (sym writes) had.reason))
+  IsComplete-ended writes ends.Memory m k verdict is decides ended had = λ _ _. inr refl
 
 -- what was printed, and then something was complained
 pub Outputs-ended : (verdict : Verdict) (ending : Ending) (said : Result (Unit {0}) Failed) (m k n : Meanings) → EndsSo verdict ending m k → AppendsAll with_complained (line_of ending) said k n → Outputs verdict (status_of ending) m n
@@ -217,15 +226,16 @@ line_said ending said verdict before now m k n ended complained cause =
       whole = λ quiet. said_all (line_of ending) before.says now.says said k n complained cause quiet ∙ ap (λ text. text ++ line_of ending) same;
     }
 
-module _ (verdict : Files → Verdict) (names : List (List ℕ)) (told : Option Meanings) (before mid now : Faults) (reads : now.reads ≡ mid.reads) where
-  Complains-line : (ending : Ending) (m n : Meanings) → told ≡ Some m → (k : Meanings) → EndsSo (verdict m.files) ending m k → HasReason verdict names told before mid ending → ComplainsLine (line_of ending) before now m n → Complains names (verdict m.files) before now (status_of ending) m n
-  Complains-line ends.Done m n is k ended had line = record {
+module _ (IsOf : Files → Verdict → Type 0) (one : (files : Files) → One (IsOf files)) (names : List (List ℕ)) (told : Option Meanings) (before mid now : Faults) (reads : now.reads ≡ mid.reads) where
+  Complains-line : (ending : Ending) (m n : Meanings) (verdict : Verdict) → told ≡ Some m → IsOf m.files verdict → (k : Meanings) → EndsSo verdict ending m k → HasReason IsOf names told before mid ending → ComplainsLine (line_of ending) before now m n
+      → Complains names verdict before now (status_of ending) m n
+  Complains-line ends.Done m n verdict is decides k ended had line = record {
     verdict_line = λ not _ _ _. absurd (not refl);
     read_line = λ e. absurd (omega arith);
     write_line = λ e. absurd (omega arith);
     memory_line = λ e. absurd (omega arith);
   }
-  Complains-line (ends.Refused refusal) m n is k ended had line =
+  Complains-line (ends.Refused refusal) m n verdict is decides k ended had line =
       let status = refusal_status-is refusal in
       record {
         verdict_line = λ _ _ _ _. rw ended.0 line;
@@ -233,26 +243,27 @@ module _ (verdict : Files → Verdict) (names : List (List ℕ)) (told : Option 
         write_line = λ e. absurd (status.no6 e);
         memory_line = λ e. absurd (status.no7 e);
       }
-  Complains-line (ends.ReadFault name) m n is k ended had line = record {
-    verdict_line = λ _ _ _ quiet. rw (missing_line verdict names told before mid now reads name.now m is (quiet refl) had.reason.1) line;
+  Complains-line (ends.ReadFault name) m n verdict is decides k ended had line = record {
+    verdict_line = λ _ _ _ quiet. rw (missing_line IsOf one names told before mid now reads name.now m verdict is decides (quiet refl) had.reason.1) line;
     read_line = λ _. (name.now, had.reason.0, line);
     write_line = λ e. absurd (omega arith);
     memory_line = λ e. absurd (omega arith);
   }
-  Complains-line ends.WriteFault m n is k ended had line = record {
+  Complains-line ends.WriteFault m n verdict is decides k ended had line = record {
     verdict_line = λ _ not _ _. absurd (not refl);
     read_line = λ e. absurd (omega arith);
     write_line = λ _. line;
     memory_line = λ e. absurd (omega arith);
   }
-  Complains-line ends.Memory m n is k ended had line = record {
+  Complains-line ends.Memory m n verdict is decides k ended had line = record {
     verdict_line = λ _ _ not _. absurd (not refl);
     read_line = λ e. absurd (omega arith);
     write_line = λ e. absurd (omega arith);
     memory_line = λ _. line;
   }
 
-  pub Complains-ended : (ending : Ending) (said : Result (Unit {0}) Failed) (m k n : Meanings) → told ≡ Some m → EndsSo (verdict m.files) ending m k → HasReason verdict names told before mid ending → AppendsAll with_complained (line_of ending) said k n → OnErr said (Rose mid.says now.says) → Complains names (verdict m.files) before now (status_of ending) m n
-  Complains-ended ending said m k n is ended had complained cause =
+  pub Complains-ended : (ending : Ending) (said : Result (Unit {0}) Failed) (m k n : Meanings) (verdict : Verdict) → told ≡ Some m → IsOf m.files verdict → EndsSo verdict ending m k → HasReason IsOf names told before mid ending
+      → AppendsAll with_complained (line_of ending) said k n → OnErr said (Rose mid.says now.says) → Complains names verdict before now (status_of ending) m n
+  Complains-ended ending said m k n verdict is decides ended had complained cause =
       let P : ℕ → Type 0 = λ says. OnErr said (Rose says now.says) in
-      Complains-line ending m n is k ended had (line_said ending said (verdict m.files) before now m k n ended complained (subst P had.says_stay cause))
+      Complains-line ending m n verdict is decides k ended had (line_said ending said verdict before now m k n ended complained (subst P had.says_stay cause))

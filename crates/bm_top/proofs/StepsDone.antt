@@ -1,13 +1,16 @@
 -- The steps of a command, one after another: what is known at the end of those that are left is known of all.
-use Rattle.std.proofs.Common.{◌≡◌, ◌⊎◌, inl, inr, ℕ, suc, ◌<◌, ◌≤◌, true, false, nat_lt, List, [], ◌∷◌, ◌++◌, length, take, Contains, Option, Some, None, Vec, Result, Ok, Err, IsSomeAnd, Bor, refl, sym, ◌∙◌, ap, subst, append_assoc, arith}
+use Rattle.std.proofs.Common.{◌≡◌, ◌⊎◌, inl, inr, ℕ, suc, ◌<◌, ◌≤◌, List, [], ◌∷◌, ◌++◌, length, take, Contains, Option, Some, None, Vec, Result, Ok, Err, OnErr, IsSomeAnd, Bor, refl, sym, ◌∙◌, ap, subst, append_assoc, arith}
+use Rattle.std.specs.FinMap.{insert}
+use Rattle.std.proofs.Math.Seq.{take-length}
 use Rattle.std.proofs.lemmas.Grind.{common_steps}
 use Rattle.std.proofs.lemmas.List.{append-nil}
 use Rattle.std.specs.declared.alloc.Global.{Global}
 use Rattle.bm_term.proofs.Elements.{Contains-head, Contains-tail}
+use Rattle.bm_world.specs.declared.world.Failed.{Failed}
 use Rattle.bm_world.specs.declared.world.Faults.{Faults}
-use Rattle.bm_world.specs.Meanings.{Files, Meanings, file_at, with_opened}
+use Rattle.bm_world.specs.Meanings.{Files, Meanings, file_at, with_made, with_opened, with_printed}
 use Rattle.bm_world.specs.Reading.{ReadsAll}
-use Rattle.bm_world.specs.World.{Step, Rose, IsMissing}
+use Rattle.bm_world.specs.World.{AppendsAll, MakesFile, Step, Rose, IsMissing}
 use Rattle.bm_world.specs.declared.reading.ReadEnd.{ReadEnd}
 use Rattle.bm_world.specs.declared.reading.ReadEnd.TheVariants as read_ends
 use Rattle.bm_world.proofs.Steps.{rose_later}
@@ -18,14 +21,16 @@ use Rattle.bm_top.specs.declared.ending.Ending.TheVariants as ends
 use Rattle.bm_top.specs.steps.Decide.{IsDecided}
 use Rattle.bm_top.specs.Lines.{read_fault_line, limit_line}
 use Rattle.bm_top.specs.Run.{OpensInTurn}
-use Rattle.bm_top.specs.Verdict.{Verdict, answered, refused}
-use Rattle.bm_top.specs.steps.VerdictOf.{decided, reading, reading_file}
+use Rattle.bm_top.specs.Standard.{IsDecidedBy, missing, read as read_whole}
+use Rattle.bm_top.specs.Verdict.{Verdict, answered, refused, stores}
+use Rattle.bm_top.specs.steps.VerdictOf.{decided}
 use Rattle.bm_top.specs.steps.Printing.{after_writing}
 use Rattle.result_write.specs.declared.form.Form.{Form}
 use Rattle.result_write.specs.declared.form.WriteEnd.{WriteEnd}
 use Rattle.result_write.specs.declared.form.WriteEnd.TheVariants as write_ends
 use Rattle.result_write.specs.Printing.{HasWriteCause, Prints}
-use Rattle.bm_top.specs.steps.Ending.{EndsSo, ReadsOnly, Leaves, HasReason, Reason, after_deciding, after_reading}
+use Rattle.bm_top.specs.steps.Ending.{Ends, EndsSo, ReadsOnly, Leaves, HasReason, Moves, Reason, Says, after_deciding, after_printing, after_reading}
+use Rattle.bm_top.proofs.Verdicts.{read_next, too_long_then}
 
 -- nothing was printed yet
 Leaves-nothing : (text : List ℕ) (m n : Meanings) → ReadsOnly m n → Leaves m.files (take 0 text) m n
@@ -48,25 +53,91 @@ EndsSo-written verdict text (Err write_ends.Memory) m n is (count, moved) =
     rw is (count, subst P (sym moved) refl)
 
 -- why not all of it was
-pub HasReason-written : (verdict : Files → Verdict) (told : Option Meanings) (before now : Faults) (written : Result (Unit {0}) WriteEnd) → HasWriteCause before.writes now.writes written → now.reads ≡ before.reads → now.says ≡ before.says → HasReason verdict [] told before now (after_writing written)
-HasReason-written verdict told before now written cause reads says = record {
+pub HasReason-written : (IsOf : Files → Verdict → Type 0) (told : Option Meanings) (before now : Faults) (written : Result (Unit {0}) WriteEnd) → HasWriteCause before.writes now.writes written → now.reads ≡ before.reads → now.says ≡ before.says → HasReason IsOf [] told before now (after_writing written)
+HasReason-written IsOf told before now written cause reads says = record {
   reads_later = omega (arith, reads);
   writes_later = cause.later;
   says_stay = says;
   reason = why written cause;
 }
   where
-    why : (written : Result (Unit {0}) WriteEnd) → HasWriteCause before.writes now.writes written → Reason verdict [] told before now (after_writing written)
+    why : (written : Result (Unit {0}) WriteEnd) → HasWriteCause before.writes now.writes written → Reason IsOf [] told before now (after_writing written)
     why (Ok u) cause = tt
     why (Err write_ends.Failed) cause = cause.failed refl
     why (Err write_ends.Memory) cause = tt
 
 -- nothing has moved, and there is no text
-pub EndsSo-undecided : (form : Form) (bytes text : List ℕ) (why : Undecided) (m : Meanings) → IsDecided bytes text (Err why) → EndsSo (decided form bytes text) (after_deciding why) m m
-EndsSo-undecided form bytes text (undecided.BadLine line) m is = (is form, refl)
-EndsSo-undecided form bytes text undecided.TooManyTriples m is = (is form, refl)
-EndsSo-undecided form bytes text (undecided.Query refusal) m is = (is form, refl)
-EndsSo-undecided form bytes text undecided.Memory m is = EndsSo-memory (decided form bytes text) m m refl
+pub EndsSo-undecided : (why : Undecided) (verdict : Verdict) (m : Meanings) → Says why verdict → EndsSo verdict (after_deciding why) m m
+EndsSo-undecided (undecided.BadLine line) verdict m is = (is, refl)
+EndsSo-undecided undecided.TooManyTriples verdict m is = (is, refl)
+EndsSo-undecided undecided.ImageTooLong verdict m is = (is, refl)
+EndsSo-undecided (undecided.Query refusal) verdict m is = (is, refl)
+EndsSo-undecided undecided.Memory verdict m is = EndsSo-memory verdict m m refl
+
+-- what is decided of data and a query says what the verdict is
+pub Says-decided : (form : Form) (bytes text : List ℕ) (why : Undecided) → IsDecided bytes text (Err why) → Says why (decided form bytes text)
+Says-decided form bytes text (undecided.BadLine line) is = is form
+Says-decided form bytes text undecided.TooManyTriples is = is form
+Says-decided form bytes text undecided.ImageTooLong is = absurd is
+Says-decided form bytes text (undecided.Query refusal) is = is form
+Says-decided form bytes text undecided.Memory is = tt
+
+-- a text was printed, which takes no memory
+pub EndsSo-printed : (text : List ℕ) (printed : Result (Unit {0}) Failed) (m n : Meanings) → AppendsAll with_printed text printed m n → EndsSo (answered text) (after_printing printed) m n
+EndsSo-printed text (Ok u) m n moved =
+    let P : Meanings → Type 0 = λ k. Leaves m.files text m k in
+    (refl, subst P (sym moved) refl)
+EndsSo-printed text (Err failed) m n (count, moved) =
+    let P : Meanings → Type 0 = λ k. Leaves m.files (take count text) m k in
+    (refl, (m.files, count, inl refl, subst P (sym moved) refl))
+
+-- a file was made, and then a text was printed
+pub EndsSo-stored : (name bytes text : List ℕ) (printed : Result (Unit {0}) Failed) (m k n : Meanings) → m.made ≡ None → k ≡ with_made m name bytes → AppendsAll with_printed text printed k n
+    → EndsSo (stores name bytes text) (after_printing printed) m n
+EndsSo-stored name bytes text (Ok u) m k n nothing made moved =
+    let P : Meanings → Type 0 = λ was. n ≡ with_printed was text → Leaves (insert m.files name bytes) text m n in
+    (refl, subst P (sym made) (λ is. is ∙ ap (λ none. record (record m { files = insert m.files name bytes; made = none }) { printed = m.printed ++ text }) (sym nothing)) moved)
+EndsSo-stored name bytes text (Err failed) m k n nothing made (count, moved) =
+    let P : Meanings → Type 0 = λ was. n ≡ with_printed was (take count text) → Leaves (insert m.files name bytes) (take count text) m n in
+    (refl, (insert m.files name bytes, count,
+      inr (record { name = name; bytes = bytes }, length bytes, refl, ap (insert m.files name) (sym (take-length bytes))),
+      subst P (sym made) (λ is. is ∙ ap (λ none. record (record m { files = insert m.files name bytes; made = none }) { printed = m.printed ++ take count text }) (sym nothing)) moved))
+
+-- the file was not made, or a front of it was
+pub EndsSo-unstored : (name bytes text : List ℕ) (failed : Failed) (m n : Meanings) → m.made ≡ None → MakesFile name bytes (Err failed) m n → EndsSo (stores name bytes text) ends.WriteFault m n
+EndsSo-unstored name bytes text failed m n nothing (inl same) =
+    let P : Meanings → Type 0 = λ k. Leaves m.files [] m k in
+    (refl, (m.files, 0, inl refl, subst P (sym same) (ap (λ printed. record m { printed = printed }) (sym (append-nil m.printed)))))
+EndsSo-unstored name bytes text failed m n nothing (inr (count, moved)) =
+    let files : Files = insert m.files name (take count bytes) in
+    let P : Meanings → Type 0 = λ k. Leaves files [] m k in
+    let still : with_made m name (take count bytes) ≡ record m { files = files; printed = m.printed ++ [] } =
+        ap (λ none. record m { files = files; made = none }) (sym nothing) ∙ ap (λ printed. record m { files = files; printed = printed }) (sym (append-nil m.printed)) in
+    (refl, (files, 0, inr (record { name = name; bytes = bytes }, count, refl, refl), subst P (sym moved) still))
+
+-- why a text was not printed, or a file not made
+pub Reason-printed : (IsOf : Files → Verdict → Type 0) (told : Option Meanings) (before now : Faults) (printed : Result (Unit {0}) Failed) → OnErr printed (Rose before.writes now.writes) → Reason IsOf [] told before now (after_printing printed)
+Reason-printed IsOf told before now (Ok u) cause = tt
+Reason-printed IsOf told before now (Err failed) cause = cause
+
+-- no file was read in vain: the reason is one for each verdict
+reason_of : (P Q : Files → Verdict → Type 0) (told : Option Meanings) (before now : Faults) (ending : Ending) → Reason P [] told before now ending → Reason Q [] told before now ending
+reason_of P Q told before now ends.Done why = tt
+reason_of P Q told before now (ends.Refused refusal) why = tt
+reason_of P Q told before now (ends.ReadFault name) why = absurd (no_name name.now why.0)
+  where
+    no_name : (name : List ℕ) → Contains [] name → ⊥
+    no_name name there = Contains-nil name there
+reason_of P Q told before now ends.WriteFault why = why
+reason_of P Q told before now ends.Memory why = tt
+
+pub HasReason-any : (P Q : Files → Verdict → Type 0) (told : Option Meanings) (before now : Faults) (ending : Ending) → HasReason P [] told before now ending → HasReason Q [] told before now ending
+HasReason-any P Q told before now ending had = record {
+  reads_later = had.reads_later;
+  writes_later = had.writes_later;
+  says_stay = had.says_stay;
+  reason = reason_of P Q told before now ending had.reason;
+}
 
 -- what is opened and what is left to read changed before
 pub EndsSo-after_read : (verdict : Verdict) (ending : Ending) (m k n : Meanings) → ReadsOnly m k → EndsSo verdict ending k n → EndsSo verdict ending m n
@@ -93,19 +164,29 @@ pub IsSomeAnd-wider : {T : Type 0} (o : Option T) (P Q : T → Type 0) → ((x :
 IsSomeAnd-wider None P Q wider h = h
 IsSomeAnd-wider (Some x) P Q wider h = wider x h
 
--- no file is opened where nothing but the printed text changed
-pub OpensInTurn-same : (names : List (List ℕ)) (m n : Meanings) → n.opened ≡ m.opened → OpensInTurn names m n
-OpensInTurn-same names m n same = (0, same ∙ sym (append-nil m.opened))
+-- no file is opened or made where nothing but the printed text changed
+pub Moves-same : (names : List (List ℕ)) (m n : Meanings) → n.opened ≡ m.opened → n.made ≡ m.made → Moves names m n
+Moves-same names m n same made = record { opens = (0, same ∙ sym (append-nil m.opened)); made = made }
 
 -- printing opens no file
-pub OpensInTurn-written : (names : List (List ℕ)) (text : List ℕ) (written : Result (Unit {0}) WriteEnd) (m n : Meanings) → Prints text written m n → OpensInTurn names m n
-OpensInTurn-written names text (Ok u) m n moved = OpensInTurn-same names m n (ap (λ (w : Meanings). w.opened) moved)
-OpensInTurn-written names text (Err e) m n (count, moved) = OpensInTurn-same names m n (ap (λ (w : Meanings). w.opened) moved)
+pub Moves-written : (names : List (List ℕ)) (text : List ℕ) (written : Result (Unit {0}) WriteEnd) (m n : Meanings) → Prints text written m n → Moves names m n
+Moves-written names text (Ok u) m n moved = Moves-same names m n (ap (λ (w : Meanings). w.opened) moved) (ap (λ (w : Meanings). w.made) moved)
+Moves-written names text (Err e) m n (count, moved) = Moves-same names m n (ap (λ (w : Meanings). w.opened) moved) (ap (λ (w : Meanings). w.made) moved)
 
--- one file is opened, and then those that are left
-pub OpensInTurn-more : (name : List ℕ) (names : List (List ℕ)) (m k n : Meanings) → k.opened ≡ m.opened ++ name ∷ [] → OpensInTurn names k n → OpensInTurn (name ∷ names) m n
-OpensInTurn-more name names m k n opened (count, more) =
-    (suc count, more ∙ ap (λ (so_far : List (List ℕ)). so_far ++ take count names) opened ∙ append_assoc m.opened (name ∷ []) (take count names))
+pub Moves-printed : (names : List (List ℕ)) (text : List ℕ) (printed : Result (Unit {0}) Failed) (m n : Meanings) → AppendsAll with_printed text printed m n → Moves names m n
+Moves-printed names text (Ok u) m n moved = Moves-same names m n (ap (λ (w : Meanings). w.opened) moved) (ap (λ (w : Meanings). w.made) moved)
+Moves-printed names text (Err e) m n (count, moved) = Moves-same names m n (ap (λ (w : Meanings). w.opened) moved) (ap (λ (w : Meanings). w.made) moved)
+
+-- nor does making one, and none is being made when it ends
+pub Moves-made : (names : List (List ℕ)) (name bytes : List ℕ) (made : Result (Unit {0}) Failed) (m n : Meanings) → m.made ≡ None → MakesFile name bytes made m n → Moves names m n
+Moves-made names name bytes (Ok u) m n nothing moved = Moves-same names m n (ap (λ (w : Meanings). w.opened) moved) (ap (λ (w : Meanings). w.made) moved ∙ sym nothing)
+Moves-made names name bytes (Err e) m n nothing (inl same) = Moves-same names m n (ap (λ (w : Meanings). w.opened) same) (ap (λ (w : Meanings). w.made) same)
+Moves-made names name bytes (Err e) m n nothing (inr (count, moved)) = Moves-same names m n (ap (λ (w : Meanings). w.opened) moved) (ap (λ (w : Meanings). w.made) moved ∙ sym nothing)
+
+-- and then a text is printed
+pub Moves-then_printed : (names : List (List ℕ)) (text : List ℕ) (printed : Result (Unit {0}) Failed) (m k n : Meanings) → Moves names m k → AppendsAll with_printed text printed k n → Moves names m n
+Moves-then_printed names text (Ok u) m k n before moved = record { opens = (before.opens.0, ap (λ (w : Meanings). w.opened) moved ∙ before.opens.1); made = ap (λ (w : Meanings). w.made) moved ∙ before.made }
+Moves-then_printed names text (Err e) m k n before (count, moved) = record { opens = (before.opens.0, ap (λ (w : Meanings). w.opened) moved ∙ before.opens.1); made = ap (λ (w : Meanings). w.made) moved ∙ before.made }
 
 -- one file was opened, and nothing else has changed
 reads_only_opened : (name : List ℕ) (rest : Option (List ℕ)) (m k : Meanings) → k ≡ with_opened m name rest → ReadsOnly m k
@@ -122,55 +203,71 @@ ReadsOnly-reading name limit (Err read_ends.Fault) m k moved =
       | inr some ↦ reads_only_opened name (Some some.1.left) m k some.1.moved
     ]
 
+-- reading makes no file
+made_reading : (name : List ℕ) (limit : ℕ) (result : Result (Vec ℕ Global) ReadEnd) (m k : Meanings) → ReadsAll name limit result m k → k.made ≡ m.made
+made_reading name limit result m k reads = ap (λ (w : Meanings). w.made) (ReadsOnly-reading name limit result m k reads)
+
+-- one file is opened, and then those that are left
+pub Moves-more : (name : List ℕ) (names : List (List ℕ)) (limit : ℕ) (bytes : Vec ℕ Global) (m k n : Meanings) → ReadsAll name limit (Ok bytes) m k → Moves names k n → Moves (name ∷ names) m n
+Moves-more name names limit bytes m k n reads moves =
+    let (count, more) = moves.opens in
+    record {
+      opens = (suc count, more ∙ ap (λ (so_far : List (List ℕ)). so_far ++ take count names) (ap (λ (w : Meanings). w.opened) reads.1) ∙ append_assoc m.opened (name ∷ []) (take count names));
+      made = moves.made ∙ made_reading name limit (Ok bytes) m k reads;
+    }
+
 -- the file that is read is opened, and no other
-pub OpensInTurn-unread : (name : List ℕ) (names : List (List ℕ)) (limit : ℕ) (end : ReadEnd) (m k : Meanings) → ReadsAll name limit (Err end) m k → OpensInTurn (name ∷ names) m k
-OpensInTurn-unread name names limit read_ends.TooLong m k (came, (read, long)) = (1, ap (λ (w : Meanings). w.opened) read.moved)
-OpensInTurn-unread name names limit read_ends.Memory m k (came, read) = (1, ap (λ (w : Meanings). w.opened) read.moved)
-OpensInTurn-unread name names limit read_ends.Fault m k moved =
+opened_unread : (name : List ℕ) (names : List (List ℕ)) (limit : ℕ) (end : ReadEnd) (m k : Meanings) → ReadsAll name limit (Err end) m k → OpensInTurn (name ∷ names) m k
+opened_unread name names limit read_ends.TooLong m k (came, (reads, long)) = (1, ap (λ (w : Meanings). w.opened) reads.moved)
+opened_unread name names limit read_ends.Memory m k (came, reads) = (1, ap (λ (w : Meanings). w.opened) reads.moved)
+opened_unread name names limit read_ends.Fault m k moved =
     elim moved [
-      | inl closed ↦ OpensInTurn-same (name ∷ names) m k (ap (λ (w : Meanings). w.opened) closed)
+      | inl closed ↦ (0, ap (λ (w : Meanings). w.opened) closed ∙ sym (append-nil m.opened))
       | inr some ↦ (1, ap (λ (w : Meanings). w.opened) some.1.moved)
     ]
 
--- more bytes have come than the limit, of a file that has them and others
-too_long : (name : List ℕ) (limit : ℕ) (file : Option (List ℕ)) (next : List ℕ → Verdict) (came left : List ℕ) → file ≡ Some (came ++ left) → limit < length came → reading_file name limit file next ≡ refused 8 (limit_line name limit)
-too_long name limit file next came left is long =
-    let over : nat_lt limit (length (came ++ left)) ≡ true = grind (arith, common_steps) in rw (is, over) refl
+pub Moves-unread : (name : List ℕ) (names : List (List ℕ)) (limit : ℕ) (end : ReadEnd) (m k : Meanings) → ReadsAll name limit (Err end) m k → Moves (name ∷ names) m k
+Moves-unread name names limit end m k reads = record { opens = opened_unread name names limit end m k reads; made = made_reading name limit (Err end) m k reads }
 
-module _ (name : List ℕ) (names : List (List ℕ)) (limit : ℕ) (next : Files → List ℕ → Verdict) where
+-- a fact of a world of which each has it
+pub Step-all : {a b : Option Meanings} {X : Type 0} {R : X → Meanings → Meanings → Type 0} → Step a b (λ m n. (x : X) → R x m n) → (x : X) → Step a b (λ m n. R x m n)
+Step-all step x = record { silent = step.silent; moves = λ m n was is. step.moves m n was is x }
+
+module _ (name : List ℕ) (names : List (List ℕ)) (limit : ℕ) (Next : Files → List ℕ → Verdict → Type 0) where
   -- the verdict of a file that is read, and of the steps that are left
-  abbrev verdict : Files → Verdict
-  verdict files = reading files name limit (next files)
+  abbrev IsOf : Files → Verdict → Type 0
+  IsOf files verdict = IsDecidedBy files name limit (Next files) verdict
 
-  verdict-read : (m k : Meanings) (bytes : Vec ℕ Global) → ReadsAll name limit (Ok bytes) m k → length bytes.items ≤ limit → verdict m.files ≡ next k.files bytes.items
-  verdict-read m k bytes (whole, moved) small =
-      let kept : nat_lt limit (length bytes.items) ≡ false = grind (arith, common_steps) in
-      let same : k.files ≡ m.files = ap (λ (w : Meanings). w.files) moved in
-      rw (whole, kept, same) refl
+  same_files : (m k : Meanings) (bytes : Vec ℕ Global) → ReadsAll name limit (Ok bytes) m k → k.files ≡ m.files
+  same_files m k bytes (whole, moved) = ap (λ (w : Meanings). w.files) moved
 
   -- the file was read
-  pub EndsSo-reading : (m k n : Meanings) (bytes : Vec ℕ Global) (ending : Ending) → ReadsAll name limit (Ok bytes) m k → length bytes.items ≤ limit → EndsSo (next k.files bytes.items) ending k n → EndsSo (verdict m.files) ending m n
-  EndsSo-reading m k n bytes ending read small ended =
-      rw (verdict-read m k bytes read small) (EndsSo-after_read (next k.files bytes.items) ending m k n (ReadsOnly-reading name limit (Ok bytes) m k read) ended)
+  pub Ends-reading : (m k n : Meanings) (bytes : Vec ℕ Global) (ending : Ending) → ReadsAll name limit (Ok bytes) m k → length bytes.items ≤ limit → Ends (Next k.files bytes.items) ending k n → Ends (IsOf m.files) ending m n
+  Ends-reading m k n bytes ending reads small ended verdict is =
+      let P : Files → Type 0 = λ files. Next files bytes.items verdict in
+      let next : Next k.files bytes.items verdict = subst P (sym (same_files m k bytes reads)) (read_next m.files name limit (Next m.files) bytes.items verdict reads.0 small is) in
+      EndsSo-after_read verdict ending m k n (ReadsOnly-reading name limit (Ok bytes) m k reads) (ended verdict next)
 
   -- the file was not read to its end
-  pub EndsSo-unread : (m k : Meanings) (end : ReadEnd) (shown : Bor (List ℕ)) → shown.now ≡ name → ReadsAll name limit (Err end) m k → EndsSo (verdict m.files) (after_reading end shown limit) m k
-  EndsSo-unread m k read_ends.Fault shown is read = ReadsOnly-reading name limit (Err read_ends.Fault) m k read
-  EndsSo-unread m k read_ends.Memory shown is read = EndsSo-memory (verdict m.files) m k (ReadsOnly-reading name limit (Err read_ends.Memory) m k read)
-  EndsSo-unread m k read_ends.TooLong shown is (came, (read, long)) =
-      (rw is (too_long name limit (file_at m name) (next m.files) came read.left read.whole long), reads_only_opened name (Some read.left) m k read.moved)
+  pub Ends-unread : (m k : Meanings) (end : ReadEnd) (shown : Bor (List ℕ)) → shown.now ≡ name → ReadsAll name limit (Err end) m k → Ends (IsOf m.files) (after_reading end shown limit) m k
+  Ends-unread m k read_ends.Fault shown is reads verdict decides = ReadsOnly-reading name limit (Err read_ends.Fault) m k reads
+  Ends-unread m k read_ends.Memory shown is reads verdict decides = EndsSo-memory verdict m k (ReadsOnly-reading name limit (Err read_ends.Memory) m k reads)
+  Ends-unread m k read_ends.TooLong shown is (came, (reads, long)) verdict decides =
+      let over : limit < length (came ++ reads.left) = grind (arith, common_steps) in
+      let same = too_long_then m.files name limit (Next m.files) (came ++ reads.left) verdict reads.whole over decides in
+      (rw is same, reads_only_opened name (Some reads.left) m k reads.moved)
 
-  missing : (m : Meanings) (shown : Bor (List ℕ)) → shown.now ≡ name → IsMissing name m → verdict m.files ≡ refused 5 (read_fault_line shown.now)
-  missing m shown is none = rw (none, is) refl
+  missed : (m : Meanings) (shown : Bor (List ℕ)) → shown.now ≡ name → IsMissing name m → IsOf m.files (refused 5 (read_fault_line shown.now))
+  missed m shown is none = missing none (ap (λ n. refused 5 (read_fault_line n)) is)
 
   unread_reason : (told : Option Meanings) (before now : Faults) (end : ReadEnd) (shown : Bor (List ℕ)) → shown.now ≡ name
-      → (end ≡ read_ends.Fault → Rose before.reads now.reads ⊎ IsSomeAnd told (IsMissing name)) → Reason verdict (name ∷ names) told before now (after_reading end shown limit)
+      → (end ≡ read_ends.Fault → Rose before.reads now.reads ⊎ IsSomeAnd told (IsMissing name)) → Reason IsOf (name ∷ names) told before now (after_reading end shown limit)
   unread_reason told before now read_ends.Fault shown is why =
       let P : List ℕ → Type 0 = λ shown_name. Contains (name ∷ names) shown_name in (
         subst P (sym is) (Contains-head name names),
         elim (why refl) [
           | inl rose ↦ inl rose
-          | inr gone ↦ inr (IsSomeAnd-wider told (IsMissing name) (λ m. verdict m.files ≡ refused 5 (read_fault_line shown.now)) (λ m none. missing m shown is none) gone)
+          | inr gone ↦ inr (IsSomeAnd-wider told (IsMissing name) (λ m. IsOf m.files (refused 5 (read_fault_line shown.now))) (λ m none. missed m shown is none) gone)
         ],
       )
   unread_reason told before now read_ends.TooLong shown is why = tt
@@ -179,7 +276,7 @@ module _ (name : List ℕ) (names : List (List ℕ)) (limit : ℕ) (next : Files
   -- why the file was not read
   pub HasReason-unread : (told : Option Meanings) (before now : Faults) (end : ReadEnd) (shown : Bor (List ℕ)) → shown.now ≡ name → before.reads ≤ now.reads → now.writes ≡ before.writes → now.says ≡ before.says
       → (end ≡ read_ends.Fault → Rose before.reads now.reads ⊎ IsSomeAnd told (IsMissing name))
-      → HasReason verdict (name ∷ names) told before now (after_reading end shown limit)
+      → HasReason IsOf (name ∷ names) told before now (after_reading end shown limit)
   HasReason-unread told before now end shown is later writes says why = record {
     reads_later = later;
     writes_later = omega (arith, writes);
@@ -187,14 +284,19 @@ module _ (name : List ℕ) (names : List (List ℕ)) (limit : ℕ) (next : Files
     reason = unread_reason told before now end shown is why;
   }
 
-  earlier : (told mid : Option Meanings) (bytes : Vec ℕ Global) (found : Verdict) → length bytes.items ≤ limit → Step told mid (ReadsAll name limit (Ok bytes)) → IsSomeAnd mid (λ k. next k.files bytes.items ≡ found) → IsSomeAnd told (λ m. verdict m.files ≡ found)
+  earlier : (told mid : Option Meanings) (bytes : Vec ℕ Global) (found : Verdict) → length bytes.items ≤ limit → Step told mid (ReadsAll name limit (Ok bytes)) → IsSomeAnd mid (λ k. Next k.files bytes.items found)
+      → IsSomeAnd told (λ m. IsOf m.files found)
   earlier None None bytes found small step h = h
   earlier None (Some k) bytes found small step h = let lost = step.silent refl in absurd (cc)
   earlier (Some m) None bytes found small step h = absurd h
-  earlier (Some m) (Some k) bytes found small step h = verdict-read m k bytes (step.moves m k refl refl) small ∙ h
+  earlier (Some m) (Some k) bytes found small step h =
+      let reads = step.moves m k refl refl in
+      let P : Files → Type 0 = λ files. Next files bytes.items found in
+      let next : Next m.files bytes.items found = subst P (same_files m k bytes reads) h in
+      read_whole bytes.items reads.0 small next
 
   later_reason : (told mid : Option Meanings) (before between now : Faults) (bytes : Vec ℕ Global) (ending : Ending) → before.reads ≤ between.reads → between.writes ≡ before.writes → length bytes.items ≤ limit
-      → Step told mid (ReadsAll name limit (Ok bytes)) → Reason (λ files. next files bytes.items) names mid between now ending → Reason verdict (name ∷ names) told before now ending
+      → Step told mid (ReadsAll name limit (Ok bytes)) → Reason (λ files. Next files bytes.items) names mid between now ending → Reason IsOf (name ∷ names) told before now ending
   later_reason told mid before between now bytes ends.Done later writes small step why = tt
   later_reason told mid before between now bytes (ends.Refused refusal) later writes small step why = tt
   later_reason told mid before between now bytes (ends.ReadFault shown) later writes small step why = (
@@ -209,8 +311,8 @@ module _ (name : List ℕ) (names : List (List ℕ)) (limit : ℕ) (next : Files
 
   -- why a later step failed
   pub HasReason-later : (told mid : Option Meanings) (before between now : Faults) (bytes : Vec ℕ Global) (ending : Ending) → before.reads ≤ between.reads → between.writes ≡ before.writes → between.says ≡ before.says → length bytes.items ≤ limit
-      → Step told mid (ReadsAll name limit (Ok bytes)) → HasReason (λ files. next files bytes.items) names mid between now ending
-      → HasReason verdict (name ∷ names) told before now ending
+      → Step told mid (ReadsAll name limit (Ok bytes)) → HasReason (λ files. Next files bytes.items) names mid between now ending
+      → HasReason IsOf (name ∷ names) told before now ending
   HasReason-later told mid before between now bytes ending later writes says small step had = record {
     reads_later = omega (arith, had.reads_later);
     writes_later = omega (arith, had.writes_later, writes);

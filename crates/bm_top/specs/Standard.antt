@@ -5,6 +5,7 @@ use Rattle.std.specs.Prelude.{◌≡◌, ℕ, ◌<◌, ◌≤◌, List, length, 
 use Rattle.std.specs.FinMap.{get}
 use Rattle.bm_term.specs.declared.triple.Triple.{Triple}
 use Rattle.bm_term.specs.Graph.{IsGraph}
+use Rattle.byte_tables.specs.Numbers.{IsBytes}
 use Rattle.nt_read.specs.Lines.{AreLines, IsFirstBadLine, SpellTriples}
 use Rattle.alg_model.specs.Answers.{answers_to}
 use Rattle.alg_model.specs.Query.{AbstractQuery}
@@ -148,6 +149,10 @@ IsRequestVerdict files (Some (check index_name)) verdict = IsCheckVerdict files 
 -- the verdict of these words on these files
 abbrev pub IsVerdict : List (List ℕ) → Files → Verdict → Type 0
 IsVerdict words files verdict = IsRequestVerdict files (request_of words) verdict
+
+-- each file is a list of bytes, as every file is
+abbrev pub HoldBytes : Files → Type 0
+HoldBytes files = (name bytes : List ℕ) → get files name ≡ Some bytes → IsBytes bytes
 
 -- the words ask the query of one file over the data of another, in a form; both are there, and keep their limits
 pub record Asks (words : List (List ℕ)) (files : Files) (form : Form) (bytes text : List ℕ) : Type 0 where

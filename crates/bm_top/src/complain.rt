@@ -1,11 +1,11 @@
 ghost use Rattle.std.specs.Prelude.{◌≡◌};
-ghost use Rattle.std.specs.List.{flat_map};
 ghost use Rattle.bm_world.specs.Meanings.{with_complained};
 ghost use Rattle.bm_world.specs.World.{Step, RisesOnErr, AppendsAll};
 ghost use Rattle.bm_top.specs.steps.Ending.{line_of};
 ghost use Rattle.bm_top.specs.Lines.{fault_line, query_line, refusal_line};
 
 use crate::ending::Ending;
+use crate::pieces::complain_pieces;
 use crate::refusal::{QueryRefusal, Refusal};
 use bm_world::{Failed, World, complain_all};
 use itoa::Buffer;
@@ -151,20 +151,4 @@ fn complain_fault<W: World>(fault: QueryFault, world: &mut W) -> Result<(), Fail
             )
         }
     }
-}
-
-fn complain_pieces<W: World>(world: &mut W, pieces: &[&[u8]]) -> Result<(), Failed>
-    ensures step { Step (W.told world.old) (W.told world.new)
-        (AppendsAll with_complained (flat_map (λ piece. piece.now) pieces.now) result) }
-    ensures cause { RisesOnErr (W.faults world.old).says (W.faults world.new).says result }
-    ensures reads_stay { (W.faults world.new).reads ≡ (W.faults world.old).reads }
-    ensures writes_stay { (W.faults world.new).writes ≡ (W.faults world.old).writes }
-{
-    for piece in pieces {
-        match complain_all(world, piece) {
-            Ok(()) => {}
-            Err(failed) => return Err(failed),
-        }
-    }
-    Ok(())
 }

@@ -7,6 +7,7 @@ use crate::graph::graph;
 use crate::refusal::QueryRefusal;
 use alg_model::Query;
 use bm_term::Triple;
+use index_image::ImageFault;
 use nt_read::FeedFault;
 use sparql_parse::{QueryFault, parse_query};
 use std::alloc::{AllocError, Global};
@@ -25,6 +26,7 @@ pub(crate) struct Asked {
 pub(crate) enum Undecided {
     BadLine { line: u64 },
     TooManyTriples,
+    ImageTooLong,
     Query { refusal: QueryRefusal },
     Memory,
 }
@@ -53,6 +55,20 @@ impl From<NumberFault> for Undecided {
         match fault {
             NumberFault::TooManyTriples => Undecided::TooManyTriples,
             NumberFault::Memory => Undecided::Memory,
+        }
+    }
+}
+
+impl From<ImageFault> for Undecided {
+    ghost use Rattle.std.specs.Prelude.{◌≡◌};
+    ghost use Rattle.bm_top.specs.steps.Decide.{from_image};
+
+    ghost from_gives = { λ fault undecided. undecided ≡ from_image fault };
+
+    fn from(fault: ImageFault) -> Self {
+        match fault {
+            ImageFault::TooLong => Undecided::ImageTooLong,
+            ImageFault::Memory => Undecided::Memory,
         }
     }
 }

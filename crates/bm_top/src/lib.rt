@@ -4,17 +4,24 @@
 mod accept;
 mod answers;
 mod args;
+mod ask;
 mod command;
 mod complain;
 mod data;
 mod decide;
 mod ending;
 mod graph;
+mod index_steps;
 mod laws;
+mod load;
+mod over_index;
+mod pieces;
 mod refusal;
 mod steps;
+mod store;
+mod texts;
 mod top;
 
 pub use args::run_args;
-pub use laws::each_command_has_one_verdict;
+pub use laws::{a_loaded_index_answers_as_its_data, each_command_has_one_verdict};
 pub use top::run;

@@ -1,37 +1,35 @@
-//! The steps of a command, one call of the outside a function. The clause `step` says what is known at the ending, of
-//! the verdict of the steps that are left and of what has moved; `reason` what shows that a call failed; `opens` which
-//! files were opened.
-ghost use Rattle.std.specs.Prelude.{◌≡◌, ◌≢◌, [], ◌∷◌, None, length, All, AllPairs};
+//! What a command does, and how it ends. The clause `step` says what is known at the ending, of the verdict of the steps
+//! that are left and of what has moved; `reason` what shows that a call failed; `moves` which
+//! files were opened, and that none is left in the making.
+ghost use Rattle.std.specs.Prelude.{◌≡◌, None, IfSome};
 ghost use Rattle.std.specs.Option.{option_map};
-ghost use Rattle.bm_world.specs.World.{Step};
-ghost use Rattle.alg_model.specs.Answers.{arranged};
-ghost use Rattle.alg_model.specs.Limits.{KeepsLimits};
-ghost use Rattle.alg_model.specs.Query.{abstract_of};
-ghost use Rattle.result_write.specs.ResultText.{result_text};
-ghost use Rattle.bm_top.specs.Command.{files_read, names_read};
-ghost use Rattle.bm_top.specs.Verdict.{answered};
-ghost use Rattle.bm_top.specs.steps.Ending.{EndsSo, HasReason, after_deciding, after_reading, status_of};
-ghost use Rattle.bm_top.specs.steps.Printing.{after_writing, answer_verdict};
+ghost use Rattle.bm_world.specs.World.{NothingIsMade, Step};
+ghost use Rattle.bm_top.specs.Command.{names_read};
+ghost use Rattle.bm_top.specs.Standard.{IsRequestVerdict};
+ghost use Rattle.bm_top.specs.steps.Ending.{Ends, HasReason, Moves, after_deciding, after_printing, after_reading, status_of};
+ghost use Rattle.bm_top.specs.steps.Printing.{after_writing};
 ghost use Rattle.bm_top.specs.steps.Requested.{requested};
-ghost use Rattle.bm_top.specs.Run.{OpensInTurn};
-ghost use Rattle.bm_top.specs.steps.VerdictOf.{decided, query_verdict, request_verdict, verdict_at};
 
-use crate::answers::{answers, evaluated};
+use crate::ask::ask;
 use crate::command::Command;
-use crate::decide::{Asked, Undecided, decide};
+use crate::decide::Undecided;
 use crate::ending::Ending;
+use crate::index_steps::{check, query};
+use crate::load::load;
 use crate::refusal::Refusal;
-use alg_model::{Query, RowList};
-use bm_world::{ReadEnd, World, read_all};
-use result_write::{Form, WriteEnd, write_rows};
-use std::alloc::{AllocError, Global};
+use bm_world::{Failed, ReadEnd, World};
+use result_write::WriteEnd;
+use std::alloc::Global;
 use std::hash::BuildHasher;
 
 /// The bytes that a data file may have.
-const MAX_DATA_BYTES: u64 = 536_870_912;
+pub(crate) const MAX_DATA_BYTES: u64 = 536_870_912;
 
 /// The bytes that a query file may have.
-const MAX_QUERY_BYTES: u64 = 1_048_576;
+pub(crate) const MAX_QUERY_BYTES: u64 = 1_048_576;
+
+/// The bytes that an index file may have.
+pub(crate) const MAX_INDEX_BYTES: u64 = 4_294_967_295;
 
 /// Does what a command asks for, if there is one.
 pub(crate) fn perform<'a, W: World, S: BuildHasher + Copy + Drop>(
@@ -40,118 +38,26 @@ pub(crate) fn perform<'a, W: World, S: BuildHasher + Copy + Drop>(
     command: Option<Command<'a>>,
     world: &mut W,
 ) -> Ending<'a>
+    requires { IfSome (W.told world.old) NothingIsMade }
     ensures usage { option_map requested command.entry ≡ None → (status_of result ≡ 1) × (W.told world.new ≡ W.told world.old) }
-    ensures step { Step (W.told world.old) (W.told world.new) (λ m n.
-        EndsSo (verdict_at m.files (option_map requested command.entry)) result m n) }
-    ensures reason { HasReason (λ files. verdict_at files (option_map requested command.entry)) (names_read (option_map requested command.entry))
+    ensures step { Step (W.told world.old) (W.told world.new) (λ m n. Ends (IsRequestVerdict m.files (option_map requested command.entry)) result m n) }
+    ensures reason { HasReason (λ files. IsRequestVerdict files (option_map requested command.entry)) (names_read (option_map requested command.entry))
         (W.told world.old) (W.faults world.old) (W.faults world.new) result }
-    ensures opens { Step (W.told world.old) (W.told world.new) (OpensInTurn (names_read (option_map requested command.entry))) }
+    ensures moves { Step (W.told world.old) (W.told world.new) (Moves (names_read (option_map requested command.entry))) }
 {
     match command {
-        Some(ask) => perform_ask(alloc, hashers, ask, world),
+        Some(Command::Ask { data, query, form }) => ask(alloc, hashers, data, query, form, world),
+        Some(Command::Load { data, index }) => load(alloc, hashers, data, index, world),
+        Some(Command::Query { index, query: text, form }) => query(alloc, index, text, form, world),
+        Some(Command::Check { index }) => check(alloc, index, world),
         None => Ending::Refused {
             refusal: Refusal::Usage,
         },
     }
 }
 
-fn perform_ask<'a, W: World, S: BuildHasher + Copy + Drop>(
-    alloc: Global,
-    hashers: S,
-    ask: Command<'a>,
-    world: &mut W,
-) -> Ending<'a>
-    ensures step { Step (W.told world.old) (W.told world.new) (λ m n.
-        EndsSo (request_verdict m.files (requested ask.entry)) result m n) }
-    ensures reason { HasReason (λ files. request_verdict files (requested ask.entry)) (files_read (requested ask.entry))
-        (W.told world.old) (W.faults world.old) (W.faults world.new) result }
-    ensures opens { Step (W.told world.old) (W.told world.new) (OpensInTurn (files_read (requested ask.entry))) }
-{
-    match read_all(alloc, world, ask.data, MAX_DATA_BYTES) {
-        Ok(bytes) => ask_of_data(alloc, hashers, bytes, ask.query, ask.form, world),
-        Err(end) => read_ending(end, ask.data, MAX_DATA_BYTES),
-    }
-}
-
-// The steps of `ask` that are left when the data has been read.
-fn ask_of_data<'a, W: World, S: BuildHasher + Copy + Drop>(
-    alloc: Global,
-    hashers: S,
-    data: Vec<u8>,
-    query: &'a str,
-    form: Form,
-    world: &mut W,
-) -> Ending<'a>
-    ensures step { Step (W.told world.old) (W.told world.new) (λ m n.
-        EndsSo (query_verdict m.files form «data».items query.now) result m n) }
-    ensures reason { HasReason (λ files. query_verdict files form «data».items query.now) (query.now ∷ [])
-        (W.told world.old) (W.faults world.old) (W.faults world.new) result }
-    ensures opens { Step (W.told world.old) (W.told world.new) (OpensInTurn (query.now ∷ [])) }
-{
-    match read_all(alloc, world, query, MAX_QUERY_BYTES) {
-        Ok(text) => print_decided(alloc, hashers, data, &text, form, world),
-        Err(end) => read_ending(end, query, MAX_QUERY_BYTES),
-    }
-}
-
-// The steps of `ask` that are left when both files have been read.
-fn print_decided<'a, W: World, S: BuildHasher + Copy + Drop>(
-    alloc: Global,
-    hashers: S,
-    data: Vec<u8>,
-    query: &[u8],
-    form: Form,
-    world: &mut W,
-) -> Ending<'a>
-    ensures step { Step (W.told world.old) (W.told world.new) (EndsSo (decided form «data».items query.now) result) }
-    ensures reason { HasReason (λ files. decided form «data».items query.now) []
-        (W.told world.old) (W.faults world.old) (W.faults world.new) result }
-    ensures opens { Step (W.told world.old) (W.told world.new) (OpensInTurn []) }
-{
-    match decide(alloc, hashers, data, query) {
-        Ok(asked) => print_asked(alloc, &asked, form, world),
-        Err(undecided) => undecided_ending(undecided),
-    }
-}
-
-// The pattern of an accepted query is evaluated, and its answers are printed.
-fn print_asked<'a, W: World>(alloc: Global, asked: &Asked, form: Form, world: &mut W) -> Ending<'a>
-    requires limits { KeepsLimits asked.now.query }
-    requires each_once { AllPairs (λ t u. t ≢ u) asked.now.graph.items }
-    ensures step { Step (W.told world.old) (W.told world.new) (EndsSo (answer_verdict form asked.now.query asked.now.graph.items) result) }
-    ensures reason { HasReason (λ files. answer_verdict form asked.now.query asked.now.graph.items) []
-        (W.told world.old) (W.faults world.old) (W.faults world.new) result }
-    ensures opens { Step (W.told world.old) (W.told world.new) (OpensInTurn []) }
-{
-    match evaluated(alloc, &asked.query, &asked.graph) {
-        Ok(rows) => print_rows(alloc, &asked.query, &rows, form, world),
-        Err(AllocError) => Ending::Memory,
-    }
-}
-
-// The answers of a query are printed, from the rows of its pattern.
-fn print_rows<'a, W: World>(
-    alloc: Global,
-    query: &Query,
-    rows: &RowList,
-    form: Form,
-    world: &mut W,
-) -> Ending<'a>
-    requires limits { KeepsLimits query.now }
-    requires width { All (λ row. length row ≡ length query.now.names) rows.now }
-    ensures step { Step (W.told world.old) (W.told world.new)
-        (EndsSo (answered (result_text form (abstract_of query.now) (arranged query.now.columns query.now.distinct rows.now))) result) }
-    ensures reason { HasReason (λ files. answered (result_text form (abstract_of query.now) (arranged query.now.columns query.now.distinct rows.now))) []
-        (W.told world.old) (W.faults world.old) (W.faults world.new) result }
-    ensures opens { Step (W.told world.old) (W.told world.new) (OpensInTurn []) }
-{
-    match answers(alloc, query, rows) {
-        Ok(answers) => write_ending(write_rows(alloc, form, query, &answers, world)),
-        Err(AllocError) => Ending::Memory,
-    }
-}
-
-fn write_ending<'a>(written: Result<(), WriteEnd>) -> Ending<'a>
+/// How a command ends where the answers were printed, or not.
+pub(crate) fn write_ending<'a>(written: Result<(), WriteEnd>) -> Ending<'a>
     ensures { result ≡ after_writing written }
 {
     match written {
@@ -161,7 +67,18 @@ fn write_ending<'a>(written: Result<(), WriteEnd>) -> Ending<'a>
     }
 }
 
-fn undecided_ending<'a>(undecided: Undecided) -> Ending<'a>
+/// How a command ends where a text was printed, or not.
+pub(crate) fn print_ending<'a>(printed: Result<(), Failed>) -> Ending<'a>
+    ensures { result ≡ after_printing printed }
+{
+    match printed {
+        Ok(()) => Ending::Done,
+        Err(Failed) => Ending::WriteFault,
+    }
+}
+
+/// How a command ends where there is no answer.
+pub(crate) fn undecided_ending<'a>(undecided: Undecided) -> Ending<'a>
     ensures { result ≡ after_deciding undecided }
 {
     match undecided {
@@ -171,6 +88,9 @@ fn undecided_ending<'a>(undecided: Undecided) -> Ending<'a>
         Undecided::TooManyTriples => Ending::Refused {
             refusal: Refusal::TooManyTriples,
         },
+        Undecided::ImageTooLong => Ending::Refused {
+            refusal: Refusal::ImageTooLong,
+        },
         Undecided::Query { refusal } => Ending::Refused {
             refusal: Refusal::Query { refusal },
         },
@@ -178,7 +98,8 @@ fn undecided_ending<'a>(undecided: Undecided) -> Ending<'a>
     }
 }
 
-fn read_ending(end: ReadEnd, name: &str, limit: u64) -> Ending<'_>
+/// How a command ends where a file was not read.
+pub(crate) fn read_ending(end: ReadEnd, name: &str, limit: u64) -> Ending<'_>
     ensures { result ≡ after_reading end name.entry limit }
 {
     match end {

@@ -12,6 +12,8 @@ use Rattle.term_numbers.specs.declared.fault.NumberFault.{NumberFault}
 use Rattle.term_numbers.specs.declared.fault.NumberFault.TheVariants as number_faults
 use Rattle.well_designed.specs.Computed.{refusal_in}
 use Rattle.well_designed.specs.declared.refusals.Refusal.{Refusal}
+use Rattle.index_image.specs.declared.fault.ImageFault.{ImageFault}
+use Rattle.index_image.specs.declared.fault.ImageFault.TheVariants as image_faults
 use Rattle.nt_read.specs.declared.lines.FeedFault.{FeedFault}
 use Rattle.nt_read.specs.declared.lines.FeedFault.TheVariants as feed_faults
 use Rattle.sparql_parse.specs.declared.fault.QueryFault.{QueryFault}
@@ -29,6 +31,10 @@ abbrev pub from_numbers : NumberFault → Undecided
 from_numbers number_faults.TooManyTriples = undecided.TooManyTriples
 from_numbers number_faults.Memory = undecided.Memory
 
+abbrev pub from_image : ImageFault → Undecided
+from_image image_faults.TooLong = undecided.ImageTooLong
+from_image image_faults.Memory = undecided.Memory
+
 abbrev pub from_query : QueryFault → Undecided
 from_query query_faults.Memory = undecided.Memory
 from_query fault = undecided.Query (Fault fault)
@@ -41,6 +47,7 @@ abbrev pub IsAcceptance : AbstractQuery → Result (Unit {0}) Undecided → Type
 IsAcceptance query (Ok _) = refusal_in query.pattern ≡ None
 IsAcceptance query (Err (undecided.BadLine line)) = ⊥
 IsAcceptance query (Err undecided.TooManyTriples) = ⊥
+IsAcceptance query (Err undecided.ImageTooLong) = ⊥
 IsAcceptance query (Err (undecided.Query refusal)) = IsNamedRefusal query refusal
 IsAcceptance query (Err undecided.Memory) = Unit {0}
 
@@ -58,5 +65,6 @@ abbrev pub IsDecided : List ℕ → List ℕ → Result Asked Undecided → Type
 IsDecided bytes text (Ok asked) = IsAsked bytes text asked
 IsDecided bytes text (Err (undecided.BadLine line)) = IsRefused bytes text 2 (bad_line_line line)
 IsDecided bytes text (Err undecided.TooManyTriples) = IsRefused bytes text 8 too_many_triples_line
+IsDecided bytes text (Err undecided.ImageTooLong) = ⊥
 IsDecided bytes text (Err (undecided.Query refusal)) = IsRefused bytes text 3 (query_line refusal)
 IsDecided bytes text (Err undecided.Memory) = Unit {0}

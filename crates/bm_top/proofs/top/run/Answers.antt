@@ -3,6 +3,9 @@ use Rattle.bm_top.proofs.top.run.Goals as goal
 pub returns-clause-answers : goal.returns-clause-answers
 returns-clause-answers g c = c.perform_words.ensures.answers
 
+pub returns-clause-answers_of_index : goal.returns-clause-answers_of_index
+returns-clause-answers_of_index g c = c.perform_words.ensures.answers_of_index
+
 pub returns-clause-usage : goal.returns-clause-usage
 returns-clause-usage g c = c.perform_words.ensures.usage
 
@@ -29,3 +32,6 @@ returns-clause-refusal_line g c = c.perform_words.ensures.refusal_line
 
 pub returns-clause-opens : goal.returns-clause-opens
 returns-clause-opens g c = c.perform_words.ensures.opens
+
+pub returns-clause-nothing_is_made : goal.returns-clause-nothing_is_made
+returns-clause-nothing_is_made g c = c.perform_words.ensures.nothing_is_made

@@ -2,7 +2,7 @@ use Rattle.std.proofs.Common.{◌≡◌, ◌≤◌, take}
 use Rattle.std.specs.List.{flat_map}
 use Rattle.bm_world.specs.Meanings.{with_complained}
 use Rattle.bm_world.specs.World.{Step}
-use Rattle.bm_top.proofs.complain.complain_pieces.Given as goal
+use Rattle.bm_top.proofs.pieces.complain_pieces.Given as goal
 
 abbrev pub invariant-loop-piece : goal.invariant-loop-piece
 invariant-loop-piece g l = record {

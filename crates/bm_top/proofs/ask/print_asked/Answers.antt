@@ -8,7 +8,7 @@ use Rattle.answer_rows.proofs.Moved.{arranged-moved}
 use Rattle.result_write.specs.ResultText.{result_text}
 use Rattle.bm_top.specs.Verdict.{answered}
 use Rattle.bm_top.specs.steps.Ending.{EndsSo}
-use Rattle.bm_top.proofs.steps.print_asked.Goals as goal
+use Rattle.bm_top.proofs.ask.print_asked.Goals as goal
 
 pub returns-in-Ok-clause-step : goal.returns-in-Ok-clause-step
 returns-in-Ok-clause-step g c =

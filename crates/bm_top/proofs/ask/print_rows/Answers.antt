@@ -6,7 +6,7 @@ use Rattle.alg_model.specs.Query.{abstract_of}
 use Rattle.result_write.specs.ResultText.{result_text}
 use Rattle.bm_top.specs.Verdict.{answered}
 use Rattle.bm_top.proofs.StepsDone.{EndsSo-written, OpensInTurn-written}
-use Rattle.bm_top.proofs.steps.print_rows.Goals as goal
+use Rattle.bm_top.proofs.ask.print_rows.Goals as goal
 
 pub returns-in-Ok-clause-step : goal.returns-in-Ok-clause-step
 returns-in-Ok-clause-step g c =

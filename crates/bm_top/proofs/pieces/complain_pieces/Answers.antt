@@ -3,7 +3,7 @@ use Rattle.bm_world.specs.Meanings.{with_complained}
 use Rattle.bm_world.proofs.Appending.{complained_appends, appends_some}
 use Rattle.bm_world.proofs.Steps.{Step-then, Step-weaken}
 use Rattle.bm_top.proofs.LinePieces.{no_piece, all_of, pieces-more, AppendsUpTo-pieces, AppendsSome-wider, pieces-whole}
-use Rattle.bm_top.proofs.complain.complain_pieces.Goals as goal
+use Rattle.bm_top.proofs.pieces.complain_pieces.Goals as goal
 
 pub loop-piece-preserved : goal.loop-piece-preserved
 loop-piece-preserved g c =
@@ -19,8 +19,8 @@ loop-piece-preserved g c =
 
 pub returns-in-Err-clause-step : goal.returns-in-Err-clause-step
 returns-in-Err-clause-step g c =
-    appends_some with_complained complained_appends (Step-weaken c.loop-piece.invariant.said (AppendsUpTo-pieces c.args.pieces.now c.loop-piece.piece-index no_piece c.loop-piece-test.true))
-    (Step-weaken c.in-Err.ensures.step (AppendsSome-wider (get_or c.args.pieces.now c.loop-piece.piece-index no_piece).now (all_of (drop (suc c.loop-piece.piece-index) c.args.pieces.now))))
+    appends_some with_complained complained_appends (Step-weaken c.loop-piece.invariant.said (AppendsUpTo-pieces with_complained c.args.pieces.now c.loop-piece.piece-index no_piece c.loop-piece-test.true))
+    (Step-weaken c.in-Err.ensures.step (AppendsSome-wider with_complained (get_or c.args.pieces.now c.loop-piece.piece-index no_piece).now (all_of (drop (suc c.loop-piece.piece-index) c.args.pieces.now))))
 
 pub returns-clause-step : goal.returns-clause-step
 returns-clause-step g c =
