@@ -20,24 +20,24 @@ Decided P = P ⊎ (P → ⊥)
 -- what is the same as something told
 pub through : {P Q : Type 0} → Decided P → (P → Q) → (Q → P) → Decided Q
 through (inl p) to from = inl (to p)
-through (inr no) to from = inr (λ q. no (from q))
+through (inr fails) to from = inr (λ q. fails (from q))
 
 pub both : {P Q : Type 0} → Decided P → Decided Q → Decided (P × Q)
 both (inl p) (inl q) = inl (p, q)
-both (inl p) (inr no) = inr (λ h. no h.1)
-both (inr no) q = inr (λ h. no h.0)
+both (inl p) (inr fails) = inr (λ h. fails h.1)
+both (inr fails) q = inr (λ h. fails h.0)
 
 pub all_three : {P Q R : Type 0} → Decided P → Decided Q → Decided R → Decided (P × Q × R)
 all_three p q r = through (both p (both q r)) (λ h. (h.0, h.1.0, h.1.1)) (λ h. (h.0, (h.1, h.2)))
 
 pub one_of : {P Q : Type 0} → Decided P → Decided Q → Decided (P ⊎ Q)
 one_of (inl p) q = inl (inl p)
-one_of (inr no) (inl q) = inl (inr q)
-one_of (inr no) (inr none) = inr (λ h. elim h as (λ _. ⊥) [ inl p ↦ no p | inr q ↦ none q ])
+one_of (inr fails) (inl q) = inl (inr q)
+one_of (inr fails) (inr none) = inr (λ h. elim h as (λ _. ⊥) [ inl p ↦ fails p | inr q ↦ none q ])
 
 pub denied : {P : Type 0} → Decided P → Decided (P → ⊥)
-denied (inl p) = inr (λ no. no p)
-denied (inr no) = inl no
+denied (inl p) = inr (λ fails. fails p)
+denied (inr fails) = inl fails
 
 -- what a test tells
 by_test : {P : Type 0} (b : Bool) → Decides b P → Decided P
@@ -92,9 +92,11 @@ is_less Less = inl refl
 is_less Equal = inr (λ e. absurd (cc))
 is_less Greater = inr (λ e. absurd (cc))
 
--- whether a list ascends
-pub decided_sorted : {K : Type 0} (cmp : K → K → Ordering) (ks : List K) → Decided (IsStrictlySortedBy cmp ks)
-decided_sorted cmp [] = inl tt
-decided_sorted cmp (k ∷ ks) =
-    let before = λ y. cmp k y ≡ Less in
-    both (through (decided_All before (λ y. is_less (cmp k y)) ks) (recursion_from_All before ks) (All-from_recursion before ks)) (decided_sorted cmp ks)
+module _ {K : Type 0} (cmp : K → K → Ordering) where
+  -- whether a list ascends
+  pub decided_sorted : (ks : List K) → Decided (IsStrictlySortedBy cmp ks)
+  unfolding IsStrictlySortedBy
+  decided_sorted [] = inl tt
+  decided_sorted (k ∷ ks) =
+      let after : K → Type 0 = λ y. cmp k y ≡ Less in
+      both (through (decided_All after (λ y. is_less (cmp k y)) ks) (recursion_from_All after ks) (All-from_recursion after ks)) (decided_sorted ks)

@@ -87,9 +87,9 @@ decided_kind : (kind : TermKind) → ((other : TermKind) → Decided (other ≡ 
 decided_kind kind is_kind text (inl canonical) =
     through (is_kind (kind_of canonical.term)) (λ same. record { canonical = canonical; kind_is = same })
     (λ is.
-        let other = is.canonical in
-        ap kind_of (canonical_text-injective canonical.term other.term canonical.is other.is (sym canonical.spelled ∙ other.spelled)) ∙ is.kind_is)
-decided_kind kind is_kind text (inr no) = inr (λ is. no is.canonical)
+    let other = is.canonical in
+    ap kind_of (canonical_text-injective canonical.term other.term canonical.is other.is (sym canonical.spelled ∙ other.spelled)) ∙ is.kind_is)
+decided_kind kind is_kind text (inr fails) = inr (λ is. fails is.canonical)
 
 decided_iri : (text : List ℕ) → Decided (IsTextOf Iri text)
 decided_iri text = decided_kind Iri is_iri text (decided_canonical text)
@@ -101,7 +101,7 @@ decided_AreCanonical : (terms : Terms) → Decided (AreCanonical terms)
 decided_AreCanonical terms =
     through
     (both (both (decided_All IsNode decided_node terms.shared) (decided_All IsNode decided_node terms.subjects))
-      (both (decided_All IsCanonical decided_canonical terms.objects) (decided_All (IsTextOf Iri) decided_iri terms.predicates)))
+    (both (decided_All IsCanonical decided_canonical terms.objects) (decided_All (IsTextOf Iri) decided_iri terms.predicates)))
     (λ h. record { shared = h.0.0; subjects = h.0.1; objects = h.1.0; predicates = h.1.1 })
     (λ h. ((h.shared, h.subjects), (h.objects, h.predicates)))
 
@@ -113,8 +113,8 @@ decided_AreOrdered : (terms : Terms) → Decided (AreOrdered terms)
 decided_AreOrdered terms =
     through
     (all_three (both (decided_sorted text_cmp terms.shared) (decided_sorted text_cmp terms.subjects))
-      (both (decided_sorted text_cmp terms.objects) (decided_sorted text_cmp terms.predicates))
-      (both (decided_apart terms.shared (terms.subjects ++ terms.objects)) (decided_apart terms.subjects terms.objects)))
+    (both (decided_sorted text_cmp terms.objects) (decided_sorted text_cmp terms.predicates))
+    (both (decided_apart terms.shared (terms.subjects ++ terms.objects)) (decided_apart terms.subjects terms.objects)))
     (λ h. record { shared = h.0.0; subjects = h.0.1; objects = h.1.0; predicates = h.1.1; shared_alone = h.2.0; subjects_alone = h.2.1 })
     (λ h. ((h.shared, h.subjects), (h.objects, h.predicates), (h.shared_alone, h.subjects_alone)))
 
@@ -147,16 +147,16 @@ decided_AreEntries form rows columns low from [] bytes = cases_eq (length bytes)
 decided_AreEntries form rows columns low from (e ∷ es) bytes =
     through
     (both (all_three (decided_at_most low e.0) (decided_less e.0 rows) (decided_less from e.1))
-      (all_three (decided_at_most e.1 (from + length bytes)) (decided_IsEncoding form columns (take (e.1 - from) bytes))
-        (decided_AreEntries form rows columns (e.0 + 1) e.1 es (drop (e.1 - from) bytes))))
+    (all_three (decided_at_most e.1 (from + length bytes)) (decided_IsEncoding form columns (take (e.1 - from) bytes))
+    (decided_AreEntries form rows columns (e.0 + 1) e.1 es (drop (e.1 - from) bytes))))
     (λ h. (h.0.0, h.0.1, h.0.2, h.1.0, h.1.1, h.1.2)) (λ h. ((h.0, h.1, h.2), (h.3, h.4, h.5)))
 
 decided_IsSlice : (form : RowForm) (rows columns : ℕ) (bytes : List ℕ) → Decided (IsSlice form rows columns bytes)
 decided_IsSlice form rows columns bytes =
     through
     (both (both (decided_at_most 4 (length bytes)) (decided_less 0 (line_count bytes)))
-      (both (decided_at_most (4 + 8 * line_count bytes) (length bytes))
-        (decided_AreEntries form rows columns 0 0 (pairs_in (entry_part bytes)) (row_part bytes))))
+    (both (decided_at_most (4 + 8 * line_count bytes) (length bytes))
+    (decided_AreEntries form rows columns 0 0 (pairs_in (entry_part bytes)) (row_part bytes))))
     (λ h. record { counted = h.0.0; some = h.0.1; room = h.1.0; entries = h.1.1 })
     (λ h. ((h.counted, h.some), (h.room, h.entries)))
 
