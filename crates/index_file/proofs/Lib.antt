@@ -1,4 +1,6 @@
 pub mod AgreementLaws
+pub mod DecidedLaws
+pub mod DecidedLawsOfParts
 pub mod Examples
 pub mod FamilyLaws
 pub mod GroupLaws

@@ -1,16 +1,18 @@
 //! Laws of the definitions. The calls do nothing: their contracts are the laws. Version and form are variables in all
 //! of them, so they hold of each version of the file.
 
-ghost use Rattle.std.specs.Prelude.{◌≡◌, ◌↔◌, ◌++◌, ◌^◌, ◌<◌, ◌≤◌, ◌+◌, [], ℕ, List, Contains, length};
+ghost use Rattle.std.specs.Prelude.{◌≡◌, ◌↔◌, ◌++◌, ◌^◌, ◌<◌, ◌≤◌, ◌+◌, ◌⊎◌, [], ℕ, List, Contains, length};
 ghost use Rattle.bm_term.specs.SetOf.{set_of};
 ghost use Rattle.bm_term.specs.declared.triple.Triple.{Triple};
 ghost use Rattle.byte_tables.specs.Numbers.{IsBytes};
 ghost use Rattle.run_rows.specs.declared.form.RowForm.{RowForm};
 ghost use Rattle.term_numbers.specs.Numbering.{numbering_of};
 ghost use Rattle.term_numbers.specs.Order.{Numbered, number_cmp};
+ghost use Rattle.index_file.specs.declared.damaged.Part.{Part};
 ghost use Rattle.index_file.specs.declared.family.Family.{Family};
 ghost use Rattle.index_file.specs.declared.family.Family.TheVariants.{So};
 ghost use Rattle.index_file.specs.Conditions.{IsImageOf, IsIndex, IsStorable};
+ghost use Rattle.index_file.specs.Damage.{IsFirstFailing};
 ghost use Rattle.index_file.specs.Families.{pairs_in, slice_number, slices_of, triple_at, triples_from};
 ghost use Rattle.index_file.specs.Image.{graph_in, image_of, terms_in, triples_in};
 ghost use Rattle.index_file.specs.LaidOut.{CanBeLaidOut, IsLaidOut};
@@ -61,4 +63,14 @@ pub fn a_layout_and_its_bytes_determine_each_other()
     ensures written { (version : ℕ) (bytes : List ℕ) → version < 2 ^ 32 → IsBytes bytes → IsLaidOut version bytes → layout_bytes (layout_in bytes) ≡ bytes }
     ensures can { (version : ℕ) (bytes : List ℕ) → version < 2 ^ 32 → IsBytes bytes → IsLaidOut version bytes → CanBeLaidOut (layout_in bytes) }
     ensures size { (l : Layout) → length (layout_bytes l) ≡ file_size l }
+{}
+
+/// Bytes are an index, or there is a first part whose condition does not hold, and no other.
+pub fn bytes_are_an_index_or_damaged()
+    ensures either { (version : ℕ) (form : RowForm) (bytes : List ℕ) →
+        IsIndex version form bytes ⊎ ((part : Part) × IsFirstFailing version form bytes part) }
+    ensures not_both { (version : ℕ) (form : RowForm) (bytes : List ℕ) (part : Part) →
+        IsIndex version form bytes → IsFirstFailing version form bytes part → ⊥ }
+    ensures one_part { (version : ℕ) (form : RowForm) (bytes : List ℕ) (part other : Part) →
+        IsFirstFailing version form bytes part → IsFirstFailing version form bytes other → part ≡ other }
 {}

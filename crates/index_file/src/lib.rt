@@ -30,8 +30,8 @@ pub use family::Family;
 pub use index::Index;
 pub use laws::{
     a_layout_and_its_bytes_determine_each_other, an_image_is_of_one_graph,
-    an_index_has_the_numbering_of_its_graph, families_have_the_triples,
-    no_front_of_an_image_is_one, the_conditions_hold_of_images_alone,
+    an_index_has_the_numbering_of_its_graph, bytes_are_an_index_or_damaged,
+    families_have_the_triples, no_front_of_an_image_is_one, the_conditions_hold_of_images_alone,
 };
 
 #[cfg(test)]
