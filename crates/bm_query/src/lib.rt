@@ -1,8 +1,8 @@
 //! A query, answered over an open index.
 #![tactic(auto)]
 
-mod answer;
+mod answering;
 mod fault;
 
-pub use answer::answer;
+pub use answering::answer;
 pub use fault::AnswerFault;

@@ -2,6 +2,7 @@ pub mod Counting
 pub mod Deciding
 pub mod Distinct
 pub mod Examples
+pub mod IndexRead
 pub mod LinePieces
 pub mod Lists
 pub mod Over

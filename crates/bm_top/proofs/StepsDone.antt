@@ -1,5 +1,5 @@
 -- The steps of a command, one after another: what is known at the end of those that are left is known of all.
-use Rattle.std.proofs.Common.{◌≡◌, ◌⊎◌, inl, inr, ℕ, suc, ◌<◌, ◌≤◌, List, [], ◌∷◌, ◌++◌, length, take, Contains, Option, Some, None, Vec, Result, Ok, Err, OnErr, IsSomeAnd, Bor, refl, sym, ◌∙◌, ap, subst, append_assoc, arith}
+use Rattle.std.proofs.Common.{◌≡◌, ◌⊎◌, inl, inr, ℕ, suc, ◌<◌, ◌≤◌, List, [], ◌∷◌, ◌++◌, length, take, Contains, Option, Some, None, Vec, Result, Ok, Err, OnErr, IfSome, IsSomeAnd, Bor, refl, sym, ◌∙◌, ap, subst, append_assoc, arith}
 use Rattle.std.specs.FinMap.{insert}
 use Rattle.std.proofs.Math.Seq.{take-length}
 use Rattle.std.proofs.lemmas.Grind.{common_steps}
@@ -10,7 +10,7 @@ use Rattle.bm_world.specs.declared.world.Failed.{Failed}
 use Rattle.bm_world.specs.declared.world.Faults.{Faults}
 use Rattle.bm_world.specs.Meanings.{Files, Meanings, file_at, with_made, with_opened, with_printed}
 use Rattle.bm_world.specs.Reading.{ReadsAll}
-use Rattle.bm_world.specs.World.{AppendsAll, MakesFile, Step, Rose, IsMissing}
+use Rattle.bm_world.specs.World.{AppendsAll, MakesFile, NothingIsMade, RisesOnErr, Step, Rose, IsMissing}
 use Rattle.bm_world.specs.declared.reading.ReadEnd.{ReadEnd}
 use Rattle.bm_world.specs.declared.reading.ReadEnd.TheVariants as read_ends
 use Rattle.bm_world.proofs.Steps.{rose_later}
@@ -119,6 +119,35 @@ EndsSo-unstored name bytes text failed m n nothing (inr (count, moved)) =
 pub Reason-printed : (IsOf : Files → Verdict → Type 0) (told : Option Meanings) (before now : Faults) (printed : Result (Unit {0}) Failed) → OnErr printed (Rose before.writes now.writes) → Reason IsOf [] told before now (after_printing printed)
 Reason-printed IsOf told before now (Ok u) cause = tt
 Reason-printed IsOf told before now (Err failed) cause = cause
+
+pub HasReason-printed : (IsOf : Files → Verdict → Type 0) (told : Option Meanings) (before between now : Faults) (printed : Result (Unit {0}) Failed) → before.writes ≤ between.writes → RisesOnErr between.writes now.writes printed
+    → now.reads ≡ before.reads → now.says ≡ before.says → HasReason IsOf [] told before now (after_printing printed)
+HasReason-printed IsOf told before between now printed later cause reads says = record {
+  reads_later = omega (arith, reads);
+  writes_later = omega (arith, later, cause.later);
+  says_stay = says;
+  reason = Reason-printed IsOf told before now printed (rose printed cause.failed);
+}
+  where
+    rose : (printed : Result (Unit {0}) Failed) → OnErr printed (Rose between.writes now.writes) → OnErr printed (Rose before.writes now.writes)
+    rose (Ok u) failed = tt
+    rose (Err e) failed = rose_later later failed
+
+-- nothing was called, and there is no answer
+pub HasReason-undecided : (IsOf : Files → Verdict → Type 0) (told : Option Meanings) (faults : Faults) (why : Undecided) → HasReason IsOf [] told faults faults (after_deciding why)
+HasReason-undecided IsOf told faults why = record { reads_later = omega arith; writes_later = omega arith; says_stay = refl; reason = none why }
+  where
+    none : (why : Undecided) → Reason IsOf [] told faults faults (after_deciding why)
+    none (undecided.BadLine line) = tt
+    none undecided.TooManyTriples = tt
+    none undecided.ImageTooLong = tt
+    none (undecided.Query refusal) = tt
+    none undecided.Memory = tt
+
+-- a world in which no file is being made
+pub nothing_made : (told : Option Meanings) (m : Meanings) → told ≡ Some m → IfSome told NothingIsMade → NothingIsMade m
+nothing_made None m is nothing = absurd (cc)
+nothing_made (Some k) m is nothing = let here : k ≡ m = cc in subst NothingIsMade here nothing
 
 -- no file was read in vain: the reason is one for each verdict
 reason_of : (P Q : Files → Verdict → Type 0) (told : Option Meanings) (before now : Faults) (ending : Ending) → Reason P [] told before now ending → Reason Q [] told before now ending

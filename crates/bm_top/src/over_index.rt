@@ -16,7 +16,7 @@ use std::alloc::{AllocError, Global};
 use well_designed::Refusal;
 
 /// An accepted query, and its answers. They borrow their terms from the index.
-#[derive(Debug, Drop)]
+#[derive(Drop)]
 pub(crate) struct Answered<'a> {
     pub(crate) query: Query,
     pub(crate) rows: TextRows<'a>,

@@ -1,6 +1,7 @@
 //! A command over a world in memory.
 ghost use Rattle.std.specs.Prelude.{◌≡◌, IfOk, OnErr, map};
 ghost use Rattle.std.specs.String.{string_bytes};
+ghost use Rattle.bm_world.specs.World.{NothingIsMade};
 ghost use Rattle.command_tests.specs.Asked.{Ran, world_with};
 
 use bm_top::run;
@@ -26,10 +27,13 @@ pub fn world_of(alloc: Global, data: &str, query: &str) -> Result<MemWorld, Allo
     Ok(world)
 }
 
-/// The status of these words over a world. `Err` where memory runs out before the program has begun.
+/// The status of these words over a world in which no file is being made, as none is after it. `Err` where memory runs out
+/// before the program has begun.
 pub fn ask(alloc: Global, words: &[&str], world: &mut MemWorld) -> Result<u8, AllocError>
+    requires { NothingIsMade world.old.meanings }
     ensures ran { IfOk result (Ran (map (λ word. word.now) words.now) world.old world.new) }
     ensures not_begun { OnErr result (world.new ≡ world.old) }
+    ensures nothing_is_made { NothingIsMade world.new.meanings }
 {
     let words = owned(alloc, words)?;
     Ok(run(alloc, words.as_slice(), world))

@@ -1,5 +1,5 @@
 //! Tests of whole commands over a world in memory: words and files, each call of a run failing in turn, queries and data
-//! with the text that answers them, and refusals with their lines.
+//! with the text that answers them, refusals with their lines, and indexes that are loaded, asked and checked.
 #![tactic(auto)]
 
 mod asking;
@@ -9,6 +9,8 @@ mod checking;
 mod data;
 #[cfg(test)]
 mod failures;
+#[cfg(test)]
+mod indexes;
 #[cfg(test)]
 mod json;
 #[cfg(test)]

@@ -6,12 +6,18 @@ const USAGE: &str =
     "usage: bitmat ask DATA QUERY tsv|json | load DATA INDEX | query INDEX QUERY tsv|json | check INDEX | explain INDEX QUERY | trial N\n";
 
 /// Words, the status and the line, where there is a file `d` and a file `q`.
-const WORDS: [(&[&str], u8, &str); 7] = [
+const WORDS: [(&[&str], u8, &str); 13] = [
     (&[], 1, USAGE),
     (&["ask", "d", "q"], 1, USAGE),
     (&["ask", "d", "q", "xml"], 1, USAGE),
     (&["ask", "d", "q", "tsv", "x"], 1, USAGE),
     (&["--help"], 1, USAGE),
+    (&["load", "d"], 1, USAGE),
+    (&["query", "d", "q", "xml"], 1, USAGE),
+    (&["check"], 1, USAGE),
+    (&["load", "d", "i"], 2, "data refused: line 1\n"),
+    (&["query", "d", "r", "tsv"], 5, "read fault: r\n"),
+    (&["query", "d", "q", "tsv"], 4, "index refused: header\n"),
     (&["ask", "e", "q", "tsv"], 5, "read fault: e\n"),
     (&["ask", "d", "r", "tsv"], 5, "read fault: r\n"),
 ];

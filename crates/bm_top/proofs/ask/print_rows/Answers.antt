@@ -5,7 +5,7 @@ use Rattle.alg_model.specs.Answers.{arranged}
 use Rattle.alg_model.specs.Query.{abstract_of}
 use Rattle.result_write.specs.ResultText.{result_text}
 use Rattle.bm_top.specs.Verdict.{answered}
-use Rattle.bm_top.proofs.StepsDone.{EndsSo-written, OpensInTurn-written}
+use Rattle.bm_top.proofs.StepsDone.{EndsSo-written, Moves-written}
 use Rattle.bm_top.proofs.ask.print_rows.Goals as goal
 
 pub returns-in-Ok-clause-step : goal.returns-in-Ok-clause-step
@@ -15,5 +15,5 @@ returns-in-Ok-clause-step g c =
     Step-weaken c.write_rows.ensures.step (λ m n printed. rw c.write_ending.ensures
     (EndsSo-written (answered (text answers)) (text c.in-Ok.answers.rows) c.write_rows.result m n (ap (λ rows. answered (text rows)) (sym c.in-Ok.ensures)) printed))
 
-pub returns-in-Ok-clause-opens : goal.returns-in-Ok-clause-opens
-returns-in-Ok-clause-opens g c = Step-weaken c.write_rows.ensures.step (λ m n printed. OpensInTurn-written [] _ c.write_rows.result m n printed)
+pub returns-in-Ok-clause-moves : goal.returns-in-Ok-clause-moves
+returns-in-Ok-clause-moves g c = Step-weaken c.write_rows.ensures.step (λ m n printed. Moves-written [] _ c.write_rows.result m n printed)

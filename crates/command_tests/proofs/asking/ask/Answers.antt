@@ -9,6 +9,7 @@ returns-clause-ran c =
     let new = c.run.new.world in
     let ran : Ran (map string_bytes c.as_slice.result.now) old new c.run.result = record {
       answers = c.run.ensures.answers;
+      answers_of_index = c.run.ensures.answers_of_index;
       usage = c.run.ensures.usage;
       usage_moves_nothing = c.run.ensures.usage_moves_nothing;
       complete = c.run.ensures.complete;
@@ -18,5 +19,6 @@ returns-clause-ran c =
       causes = c.run.ensures.causes;
       refusal_line = c.run.ensures.refusal_line;
       opens = c.run.ensures.opens;
+      nothing_is_made = c.run.ensures.nothing_is_made;
     } in
     subst (λ (words : List (List ℕ)). Ran words old new c.run.result) (ap (map string_bytes) c.as_slice.ensures.value ∙ c.in_ok-words.ensures) ran
