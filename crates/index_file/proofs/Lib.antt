@@ -1,6 +1,8 @@
 pub mod AgreementLaws
 pub mod DecidedLaws
 pub mod DecidedLawsOfParts
+pub mod DecidedLawsOfSlices
+pub mod DecidedLawsOfTerms
 pub mod Examples
 pub mod FamilyLaws
 pub mod GroupLaws
