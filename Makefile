@@ -1,4 +1,5 @@
-# `make example` builds the program, compares its answers to the examples with those stored, and asks the first again;
+# `make example` builds the program, compares its answers to the examples with those stored, and asks the first once more
+# over its index;
 # `make try` asks it in half a minute, with no proof; `make gate` runs the gate; `make runs` the stored runs alone;
 # `make bench` times the program and its parts; `make random` compares it with an evaluator of its own in Python, on
 # random queries; `make standards FOLDER=..` runs the tests of the W3C that you have in a folder; `make pages` writes the
@@ -12,7 +13,10 @@ example: build
 	./bitmat ask examples/people.nt examples/friends.rq tsv | diff examples/friends.tsv -
 	cd examples/instruments && for query in $(INSTRUMENTS); do \
 	    ../../bitmat ask instruments.nt $$query.rq tsv | diff $$query.tsv - || exit 1; done
-	./bitmat ask examples/people.nt examples/friends.rq tsv
+	rm -f people.index
+	./bitmat load examples/people.nt people.index
+	./bitmat query people.index examples/friends.rq tsv | diff examples/friends.tsv -
+	./bitmat query people.index examples/friends.rq tsv
 
 try:
 	cd crates/bitmat && rt try --data people.nt=../../examples/people.nt --data friends.rq=../../examples/friends.rq \
@@ -29,6 +33,7 @@ bench: build
 	for bench in $(BENCHES); do (cd crates/$$bench && rt run) || exit 1; done
 	bench/read.py crates/bench_reading/out/bench_reading
 	bench/ask.py ./bitmat
+	bench/index.py ./bitmat
 
 random: build
 	bench/random_queries.py ./bitmat 2000

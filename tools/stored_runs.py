@@ -11,8 +11,9 @@ A stored run is a folder runs/NAME with
     stdout   all that it must write to standard output
     stderr   all that it must write to standard error
     status   the status that it must end with
+    after/   the files that must be there when it has ended, beside those that were there (none where it is missing)
 
-Each run has a fresh folder of its own, and must leave the files there as they were. The status of the script is 0
+Each run has a fresh folder of its own, and must leave the other files there as they were. The status of the script is 0
 where every run does what is stored, else 1."""
 import pathlib
 import shutil
@@ -38,6 +39,11 @@ def set_up(run, room):
 def files_in(room):
     """Gives each file of a folder with its bytes."""
     return {path.relative_to(room): path.read_bytes() for path in sorted(room.rglob("*")) if path.is_file()}
+
+
+def files_wanted(run, before):
+    """Gives the files that must be there when a run has ended."""
+    return {**before, **(files_in(run / "after") if (run / "after").is_dir() else {})}
 
 
 def shown(value):
@@ -67,8 +73,8 @@ def faults_of(program, run):
     }
     got = {"stdout": ended.stdout, "stderr": ended.stderr, "status": ended.returncode}
     faults = [f"{part}: {shown(got[part])} in place of {shown(wanted[part])}" for part in wanted if got[part] != wanted[part]]
-    if before != after:
-        faults.append("the files are not as they were")
+    if files_wanted(run, before) != after:
+        faults.append("the files are not those that must be there")
     return faults
 
 
