@@ -69,7 +69,7 @@ module _ (form : Form) (text : List ℕ) (graph : List Triple) (verdict : Verdic
     Says-unanswered fault (undecided.BadLine line) refuses names = absurd names
     Says-unanswered fault undecided.TooManyTriples refuses names = absurd names
     Says-unanswered fault undecided.ImageTooLong refuses names = absurd names
-    Says-unanswered fault (undecided.Query refusal) refuses (cause, (same, line)) = refused_pattern cause (refuses cause same) ∙ ap (refused 3) (sym line)
+    Says-unanswered fault (undecided.Query refusal) refuses (cause, same, line) = refused_pattern cause (refuses cause same) ∙ ap (refused 3) (sym line)
     Says-unanswered fault undecided.Memory refuses names = tt
 
     -- it is answered

@@ -16,7 +16,7 @@ use Rattle.bm_top.specs.Standard.{IsVerdict}
 use Rattle.bm_top.specs.Verdict.{Verdict, answered, refused}
 use Rattle.bm_top.proofs.Promises.{Complains-ended, IsComplete-ended, IsHonest-ended, LeavesFiles-ended, OnlyComplains-said, OpensInTurn-said, Outputs-ended, made-said, refusal_status-is}
 use Rattle.bm_top.proofs.StandardLaws.{asked_index_verdict, asked_verdict, request_one, request_some}
-use Rattle.bm_top.proofs.StepsDone.{IsSomeAnd-wider, Step-known}
+use Rattle.bm_top.proofs.StepsDone.{IsSomeAnd-wider, Step-known, none_made}
 use Rattle.bm_top.proofs.Verdicts.{One}
 
 -- where the verdict is a text, that is what is printed
@@ -26,12 +26,6 @@ prints-answer printed before now status m n complete outputs = record {
   whole = outputs.whole;
   quiet = outputs.quiet;
 }
-
--- no file is being made where none was
-none_made : (told now : Option Meanings) → IfSome told NothingIsMade → Step told now (λ m n. n.made ≡ m.made) → IfSome now NothingIsMade
-none_made told None nothing step = tt
-none_made None (Some n) nothing step = let lost = step.silent refl in absurd (cc)
-none_made (Some m) (Some n) nothing step = step.moves m n refl refl ∙ nothing
 
 module _ (words : List (List ℕ)) (told told_mid told_now : Option Meanings) (before mid now : Faults) (ending : Ending) (said : Result (Unit {0}) Failed) where
   -- what is known when the command has ended and its line was complained

@@ -64,7 +64,7 @@ graph-one bytes graph other is also = (graph-read bytes graph is).are ∙ sym (g
 
 -- a first bad line is the one that is read
 pub bad-read : (bytes line : List ℕ) → IsBadData bytes line → (number : ℕ) × (first_bad bytes ≡ Some number) × (line ≡ bad_line_line number)
-bad-read bytes line is = (is.number, ((first_bad-found bytes is.number).1 is.is_bad, is.is_line))
+bad-read bytes line is = (is.number, (first_bad-found bytes is.number).1 is.is_bad, is.is_line)
 
 pub read-bad : (bytes : List ℕ) (number : ℕ) → first_bad bytes ≡ Some number → IsBadData bytes (bad_line_line number)
 read-bad bytes number is = record { number = number; is_bad = (first_bad-found bytes number).0 is; is_line = refl }

@@ -1,7 +1,12 @@
 -- Words and files have exactly one verdict, and what is asked over the index of data is asked over the data.
 use Rattle.std.proofs.Common.{◌≡◌, ◌≢◌, ℕ, ◌<◌, ◌≤◌, ◌^◌, true, false, List, [], ◌∷◌, codes, length, Option, Some, None, refl, sym, ap, subst, ◌∙◌, arith}
-use Rattle.std.specs.FinMap.{cond, eq_by_cmp, get, insert, get-insert, nat_list_cmp_total}
-use Rattle.std.specs.Ordering.{nat_cmp}
+use Rattle.std.specs.Prelude.{cond}
+use Rattle.std.specs.FinMap.{get, insert, get-insert}
+use Rattle.std.proofs.lemmas.Cmp.{eq_by_cmp_equiv, nat_list_cmp_total}
+use Rattle.std.proofs.lemmas.Map.Lookups.{exact_bytes}
+use Rattle.std.specs.Ordering.{eq_by_cmp, is_eq, nat_cmp}
+use Rattle.std.specs.declared.cmp.Ordering.{Ordering}
+use Rattle.std.specs.declared.cmp.Ordering.TheVariants.{Less, Equal, Greater}
 use Rattle.std.specs.Option.{option_map}
 use Rattle.std.specs.Cmp.Lexicographic.{slice_cmp}
 use Rattle.bm_term.specs.declared.triple.Triple.{Triple}
@@ -61,12 +66,21 @@ asked_index_verdict words files form bytes index text printed asked of_data is =
     subst P (sym asked.command) (read index asked.index_file (index_is_short is.graph index image) (read text asked.query_file asked.query_within
     (good_index is.graph image (answer printed is.is_answer refl))))
 
+-- names that differ are told apart
+not_equal : (o : Ordering) → (o ≡ Equal → ⊥) → is_eq o ≡ false
+not_equal Less differ = refl
+not_equal Equal differ = absurd (differ refl)
+not_equal Greater differ = refl
+
+not_same : (name other : List ℕ) → name ≢ other → eq_by_cmp (slice_cmp nat_cmp) name other ≡ false
+not_same name other differ = not_equal (slice_cmp nat_cmp name other) (λ e. differ (exact_bytes name other e))
+
 -- a file after it was written, and another one
 written : (files : Files) (name bytes : List ℕ) → get (insert files name bytes) name ≡ Some bytes
-written files name bytes = grind (get-insert nat_list_cmp_total)
+written files name bytes = get-insert nat_list_cmp_total files name bytes name ∙ ap (λ same. cond same (Some bytes) (get files name)) ((eq_by_cmp_equiv nat_list_cmp_total).refl name)
 
 unwritten : (files : Files) (name bytes other : List ℕ) → other ≢ name → get (insert files name bytes) other ≡ get files other
-unwritten files name bytes other differ = grind (get-insert nat_list_cmp_total)
+unwritten files name bytes other differ = get-insert nat_list_cmp_total files name bytes other ∙ ap (λ same. cond same (Some bytes) (get files other)) (not_same other name differ)
 
 -- what a loaded file decides of a query, its data decide
 module _ (files : Files) (data_name index_name query_name data_bytes index : List ℕ) (graph : List Triple) (form : Form) where

@@ -5,12 +5,12 @@ use Rattle.std.proofs.Math.Seq.{take-length}
 use Rattle.std.proofs.lemmas.Grind.{common_steps}
 use Rattle.std.proofs.lemmas.List.{append-nil}
 use Rattle.std.specs.declared.alloc.Global.{Global}
-use Rattle.bm_term.proofs.Elements.{Contains-head, Contains-tail}
+use Rattle.bm_term.proofs.Elements.{Contains-head, Contains-nil, Contains-tail}
 use Rattle.bm_world.specs.declared.world.Failed.{Failed}
 use Rattle.bm_world.specs.declared.world.Faults.{Faults}
 use Rattle.bm_world.specs.Meanings.{Files, Meanings, file_at, with_made, with_opened, with_printed}
 use Rattle.bm_world.specs.Reading.{ReadsAll}
-use Rattle.bm_world.specs.World.{AppendsAll, MakesFile, NothingIsMade, RisesOnErr, Step, Rose, IsMissing}
+use Rattle.bm_world.specs.World.{AppendsAll, NothingIsMade, RisesOnErr, Step, Rose, IsMissing}
 use Rattle.bm_world.specs.declared.reading.ReadEnd.{ReadEnd}
 use Rattle.bm_world.specs.declared.reading.ReadEnd.TheVariants as read_ends
 use Rattle.bm_world.proofs.Steps.{rose_later}
@@ -92,28 +92,42 @@ EndsSo-printed text (Err failed) m n (count, moved) =
     (refl, (m.files, count, inl refl, subst P (sym moved) refl))
 
 -- a file was made, and then a text was printed
-pub EndsSo-stored : (name bytes text : List ℕ) (printed : Result (Unit {0}) Failed) (m k n : Meanings) → m.made ≡ None → k ≡ with_made m name bytes → AppendsAll with_printed text printed k n
-    → EndsSo (stores name bytes text) (after_printing printed) m n
-EndsSo-stored name bytes text (Ok u) m k n nothing made moved =
-    let P : Meanings → Type 0 = λ was. n ≡ with_printed was text → Leaves (insert m.files name bytes) text m n in
-    (refl, subst P (sym made) (λ is. is ∙ ap (λ none. record (record m { files = insert m.files name bytes; made = none }) { printed = m.printed ++ text }) (sym nothing)) moved)
-EndsSo-stored name bytes text (Err failed) m k n nothing made (count, moved) =
-    let P : Meanings → Type 0 = λ was. n ≡ with_printed was (take count text) → Leaves (insert m.files name bytes) (take count text) m n in
-    (refl, (insert m.files name bytes, count,
-      inr (record { name = name; bytes = bytes }, length bytes, refl, ap (insert m.files name) (sym (take-length bytes))),
-      subst P (sym made) (λ is. is ∙ ap (λ none. record (record m { files = insert m.files name bytes; made = none }) { printed = m.printed ++ take count text }) (sym nothing)) moved))
+module _ (name bytes : List ℕ) (m : Meanings) (nothing : m.made ≡ None) where
+  -- the world with a front of the text printed
+  abbrev stored_world : List ℕ → Meanings
+  stored_world text = record m { files = insert m.files name bytes; printed = m.printed ++ text }
 
--- the file was not made, or a front of it was
-pub EndsSo-unstored : (name bytes text : List ℕ) (failed : Failed) (m n : Meanings) → m.made ≡ None → MakesFile name bytes (Err failed) m n → EndsSo (stores name bytes text) ends.WriteFault m n
-EndsSo-unstored name bytes text failed m n nothing (inl same) =
-    let P : Meanings → Type 0 = λ k. Leaves m.files [] m k in
-    (refl, (m.files, 0, inl refl, subst P (sym same) (ap (λ printed. record m { printed = printed }) (sym (append-nil m.printed)))))
-EndsSo-unstored name bytes text failed m n nothing (inr (count, moved)) =
-    let files : Files = insert m.files name (take count bytes) in
-    let P : Meanings → Type 0 = λ k. Leaves files [] m k in
-    let still : with_made m name (take count bytes) ≡ record m { files = files; printed = m.printed ++ [] } =
-        ap (λ none. record m { files = files; made = none }) (sym nothing) ∙ ap (λ printed. record m { files = files; printed = printed }) (sym (append-nil m.printed)) in
-    (refl, (files, 0, inr (record { name = name; bytes = bytes }, count, refl, refl), subst P (sym moved) still))
+  moved_so : (text : List ℕ) (k n : Meanings) → k ≡ with_made m name bytes → n ≡ with_printed k text → n ≡ stored_world text
+  moved_so text k n made moved =
+      moved ∙ ap (λ was. with_printed was text) made
+      ∙ ap (λ none. record m { files = insert m.files name bytes; made = none; printed = m.printed ++ text }) (sym nothing)
+
+  pub EndsSo-stored : (text : List ℕ) (printed : Result (Unit {0}) Failed) (k n : Meanings) → k ≡ with_made m name bytes → AppendsAll with_printed text printed k n → EndsSo (stores name bytes text) (after_printing printed) m n
+  EndsSo-stored text (Ok u) k n made moved =
+      let P : Meanings → Type 0 = λ w. Leaves (insert m.files name bytes) text m w in
+      (refl, subst P (sym (moved_so text k n made moved)) refl)
+  EndsSo-stored text (Err failed) k n made (count, moved) =
+      let P : Meanings → Type 0 = λ w. Leaves (insert m.files name bytes) (take count text) m w in (
+        refl,
+        (
+          insert m.files name bytes,
+          count,
+          inr (record { name = name; bytes = bytes }, length bytes, refl, ap (insert m.files name) (sym (take-length bytes))),
+          subst P (sym (moved_so (take count text) k n made moved)) refl,
+        ),
+      )
+
+  -- the file was not made, or a front of it was
+  pub EndsSo-unstored : (text : List ℕ) (n : Meanings) → (n ≡ m) ⊎ ((count : ℕ) × (n ≡ with_made m name (take count bytes))) → EndsSo (stores name bytes text) ends.WriteFault m n
+  EndsSo-unstored text n (inl same) =
+      let P : Meanings → Type 0 = λ w. Leaves m.files [] m w in
+      (refl, (m.files, 0, inl refl, subst P (sym same) (ap (λ printed. record m { printed = printed }) (sym (append-nil m.printed)))))
+  EndsSo-unstored text n (inr (count, moved)) =
+      let files : Files = insert m.files name (take count bytes) in
+      let P : Meanings → Type 0 = λ w. Leaves files [] m w in
+      let here : n ≡ record m { files = files; printed = m.printed ++ [] } =
+      moved ∙ ap (λ none. record m { files = files; made = none }) (sym nothing) ∙ ap (λ printed. record m { files = files; printed = printed }) (sym (append-nil m.printed)) in
+      (refl, (files, 0, inr (record { name = name; bytes = bytes }, count, refl, refl), subst P (sym here) refl))
 
 -- why a text was not printed, or a file not made
 pub Reason-printed : (IsOf : Files → Verdict → Type 0) (told : Option Meanings) (before now : Faults) (printed : Result (Unit {0}) Failed) → OnErr printed (Rose before.writes now.writes) → Reason IsOf [] told before now (after_printing printed)
@@ -148,6 +162,12 @@ HasReason-undecided IsOf told faults why = record { reads_later = omega arith; w
 pub nothing_made : (told : Option Meanings) (m : Meanings) → told ≡ Some m → IfSome told NothingIsMade → NothingIsMade m
 nothing_made None m is nothing = absurd (cc)
 nothing_made (Some k) m is nothing = let here : k ≡ m = cc in subst NothingIsMade here nothing
+
+-- and one in which none is after a call that makes none
+pub none_made : (told now : Option Meanings) → IfSome told NothingIsMade → Step told now (λ m n. n.made ≡ m.made) → IfSome now NothingIsMade
+none_made told None nothing step = tt
+none_made None (Some n) nothing step = let lost = step.silent refl in absurd (cc)
+none_made (Some m) (Some n) nothing step = step.moves m n refl refl ∙ nothing
 
 -- no file was read in vain: the reason is one for each verdict
 reason_of : (P Q : Files → Verdict → Type 0) (told : Option Meanings) (before now : Faults) (ending : Ending) → Reason P [] told before now ending → Reason Q [] told before now ending
@@ -207,10 +227,12 @@ Moves-printed names text (Ok u) m n moved = Moves-same names m n (ap (λ (w : Me
 Moves-printed names text (Err e) m n (count, moved) = Moves-same names m n (ap (λ (w : Meanings). w.opened) moved) (ap (λ (w : Meanings). w.made) moved)
 
 -- nor does making one, and none is being made when it ends
-pub Moves-made : (names : List (List ℕ)) (name bytes : List ℕ) (made : Result (Unit {0}) Failed) (m n : Meanings) → m.made ≡ None → MakesFile name bytes made m n → Moves names m n
-Moves-made names name bytes (Ok u) m n nothing moved = Moves-same names m n (ap (λ (w : Meanings). w.opened) moved) (ap (λ (w : Meanings). w.made) moved ∙ sym nothing)
-Moves-made names name bytes (Err e) m n nothing (inl same) = Moves-same names m n (ap (λ (w : Meanings). w.opened) same) (ap (λ (w : Meanings). w.made) same)
-Moves-made names name bytes (Err e) m n nothing (inr (count, moved)) = Moves-same names m n (ap (λ (w : Meanings). w.opened) moved) (ap (λ (w : Meanings). w.made) moved ∙ sym nothing)
+pub Moves-made : (names : List (List ℕ)) (name bytes : List ℕ) (m n : Meanings) → m.made ≡ None → n ≡ with_made m name bytes → Moves names m n
+Moves-made names name bytes m n nothing moved = Moves-same names m n (ap (λ (w : Meanings). w.opened) moved) (ap (λ (w : Meanings). w.made) moved ∙ sym nothing)
+
+pub Moves-unmade : (names : List (List ℕ)) (name bytes : List ℕ) (m n : Meanings) → m.made ≡ None → (n ≡ m) ⊎ ((count : ℕ) × (n ≡ with_made m name (take count bytes))) → Moves names m n
+Moves-unmade names name bytes m n nothing (inl same) = Moves-same names m n (ap (λ (w : Meanings). w.opened) same) (ap (λ (w : Meanings). w.made) same)
+Moves-unmade names name bytes m n nothing (inr (count, moved)) = Moves-made names name (take count bytes) m n nothing moved
 
 -- and then a text is printed
 pub Moves-then_printed : (names : List (List ℕ)) (text : List ℕ) (printed : Result (Unit {0}) Failed) (m k n : Meanings) → Moves names m k → AppendsAll with_printed text printed k n → Moves names m n
@@ -233,7 +255,7 @@ ReadsOnly-reading name limit (Err read_ends.Fault) m k moved =
     ]
 
 -- reading makes no file
-made_reading : (name : List ℕ) (limit : ℕ) (result : Result (Vec ℕ Global) ReadEnd) (m k : Meanings) → ReadsAll name limit result m k → k.made ≡ m.made
+pub made_reading : (name : List ℕ) (limit : ℕ) (result : Result (Vec ℕ Global) ReadEnd) (m k : Meanings) → ReadsAll name limit result m k → k.made ≡ m.made
 made_reading name limit result m k reads = ap (λ (w : Meanings). w.made) (ReadsOnly-reading name limit result m k reads)
 
 -- one file is opened, and then those that are left

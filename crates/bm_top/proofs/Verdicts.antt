@@ -86,7 +86,7 @@ module _ (bytes : List ℕ) (Next : List Triple → Verdict → Type 0) where
   -- data with a bad line
   pub bad_then : (number : ℕ) (verdict : Verdict) → first_bad bytes ≡ Some number → IsDecidedByData bytes Next verdict → verdict ≡ refused 2 (bad_line_line number)
   bad_then number verdict found (bad_data line is same) =
-      let (other, (also, is_line)) = bad-read bytes line is in
+      let (other, also, is_line) = bad-read bytes line is in
       let e : other ≡ number = cc in
       same ∙ ap (refused 2) is_line ∙ ap (λ n. refused 2 (bad_line_line n)) e
   bad_then number verdict found (too_many is same) = absurd (no_bad_line (first_bad bytes) number (graph-read bytes is.graph is.is_graph).none found)
@@ -95,7 +95,7 @@ module _ (bytes : List ℕ) (Next : List Triple → Verdict → Type 0) where
   -- data with too many triples
   pub many_then : (graph : List Triple) (verdict : Verdict) → IsGraphOf bytes graph → max_triples < length graph → IsDecidedByData bytes Next verdict → verdict ≡ refused 8 too_many_triples_line
   many_then graph verdict is_graph many (bad_data line is same) =
-      let (other, (also, is_line)) = bad-read bytes line is in absurd (no_bad_line (first_bad bytes) other (graph-read bytes graph is_graph).none also)
+      let (other, also, is_line) = bad-read bytes line is in absurd (no_bad_line (first_bad bytes) other (graph-read bytes graph is_graph).none also)
   many_then graph verdict is_graph many (too_many is same) = same
   many_then graph verdict is_graph many (good_data other also few next) =
       let e = graph-one bytes graph other is_graph also in absurd (omega (arith, ap length e))
@@ -103,7 +103,7 @@ module _ (bytes : List ℕ) (Next : List Triple → Verdict → Type 0) where
   -- data that is taken
   pub good_then : (graph : List Triple) (verdict : Verdict) → IsGraphOf bytes graph → length graph ≤ max_triples → IsDecidedByData bytes Next verdict → Next graph verdict
   good_then graph verdict is_graph few (bad_data line is same) =
-      let (other, (also, is_line)) = bad-read bytes line is in absurd (no_bad_line (first_bad bytes) other (graph-read bytes graph is_graph).none also)
+      let (other, also, is_line) = bad-read bytes line is in absurd (no_bad_line (first_bad bytes) other (graph-read bytes graph is_graph).none also)
   good_then graph verdict is_graph few (too_many is same) =
       let e = graph-one bytes graph is.graph is_graph is.is_graph in absurd (omega (arith, ap length e, is.many))
   good_then graph verdict is_graph few (good_data other also within next) =
@@ -111,7 +111,7 @@ module _ (bytes : List ℕ) (Next : List Triple → Verdict → Type 0) where
 
   pub data_one : ((graph : List Triple) → One (Next graph)) → One (IsDecidedByData bytes Next)
   data_one after verdict other (bad_data line is same) also =
-      let (number, (found, is_line)) = bad-read bytes line is in
+      let (number, found, is_line) = bad-read bytes line is in
       same ∙ ap (refused 2) is_line ∙ sym (bad_then number other found also)
   data_one after verdict other (too_many is same) also = same ∙ sym (many_then is.graph other is.is_graph is.many also)
   data_one after verdict other (good_data graph is few next) also = after graph verdict other next (good_then graph other is few also)

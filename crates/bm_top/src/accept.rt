@@ -27,7 +27,11 @@ pub(crate) fn accept(alloc: Global, query: &Query) -> Result<(), Undecided>
 }
 
 /// A refusal with the name of its variable.
-pub(crate) fn named(alloc: Global, names: &Names, refusal: Refusal) -> Result<QueryRefusal, AllocError>
+pub(crate) fn named(
+    alloc: Global,
+    names: &Names,
+    refusal: Refusal,
+) -> Result<QueryRefusal, AllocError>
     requires { NamesBelow (length names.now) refusal }
     ensures { IfOk result (λ named. query_line named ≡ pattern_line names.now refusal) }
 {

@@ -28,7 +28,10 @@ pub(crate) enum Command<'a> {
         form: Form,
     },
     /// The index of the data of one file is written to another.
-    Load { data: &'a str, index: &'a str },
+    Load {
+        data: &'a str,
+        index: &'a str,
+    },
     /// The query of one file is answered over the index of another, in a form.
     Query {
         index: &'a str,
@@ -36,7 +39,9 @@ pub(crate) enum Command<'a> {
         form: Form,
     },
     /// An index is looked at.
-    Check { index: &'a str },
+    Check {
+        index: &'a str,
+    },
 }
 
 /// The command that some words are, if they are a row of the table of commands.

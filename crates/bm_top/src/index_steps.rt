@@ -33,7 +33,7 @@ pub(crate) fn query<'a, W: World>(
     ensures moves { Step (W.told world.old) (W.told world.new) (Moves (index.now ∷ query.now ∷ [])) }
 {
     match read_all(alloc, world, index, MAX_INDEX_BYTES) {
-        Ok(bytes) => query_of_index(alloc, bytes, query, form, world),
+        Ok(bytes) => query_of_index(alloc, &bytes, query, form, world),
         Err(end) => read_ending(end, index, MAX_INDEX_BYTES),
     }
 }
@@ -41,18 +41,18 @@ pub(crate) fn query<'a, W: World>(
 // The steps of `query` that are left when the index has been read.
 fn query_of_index<'a, W: World>(
     alloc: Global,
-    index: Vec<u8>,
+    index: &[u8],
     query: &'a str,
     form: Form,
     world: &mut W,
 ) -> Ending<'a>
-    ensures step { Step (W.told world.old) (W.told world.new) (λ m n. Ends (IsDecidedBy m.files query.now max_query_bytes (λ text. IsDecidedByIndex index.items (IsAnswerOrRefusal form text))) result m n) }
-    ensures reason { HasReason (λ files. IsDecidedBy files query.now max_query_bytes (λ text. IsDecidedByIndex index.items (IsAnswerOrRefusal form text))) (query.now ∷ [])
+    ensures step { Step (W.told world.old) (W.told world.new) (λ m n. Ends (IsDecidedBy m.files query.now max_query_bytes (λ text. IsDecidedByIndex index.now (IsAnswerOrRefusal form text))) result m n) }
+    ensures reason { HasReason (λ files. IsDecidedBy files query.now max_query_bytes (λ text. IsDecidedByIndex index.now (IsAnswerOrRefusal form text))) (query.now ∷ [])
         (W.told world.old) (W.faults world.old) (W.faults world.new) result }
     ensures moves { Step (W.told world.old) (W.told world.new) (Moves (query.now ∷ [])) }
 {
     match read_all(alloc, world, query, MAX_QUERY_BYTES) {
-        Ok(text) => print_opened(alloc, &index, &text, form, world),
+        Ok(text) => print_opened(alloc, index, &text, form, world),
         Err(end) => read_ending(end, query, MAX_QUERY_BYTES),
     }
 }

@@ -1,10 +1,10 @@
 //! What a command does, and how it ends. The clause `step` says what is known at the ending, of the verdict of the steps
 //! that are left and of what has moved; `reason` what shows that a call failed; `moves` which
 //! files were opened, and that none is left in the making.
-ghost use Rattle.std.specs.Prelude.{◌≡◌, None, IfSome};
+ghost use Rattle.std.specs.Prelude.{◌≡◌, None, Some, IfSome};
 ghost use Rattle.std.specs.Option.{option_map};
 ghost use Rattle.bm_world.specs.World.{NothingIsMade, Step};
-ghost use Rattle.bm_top.specs.Command.{names_read};
+ghost use Rattle.bm_top.specs.Command.{files_read, names_read};
 ghost use Rattle.bm_top.specs.Standard.{IsRequestVerdict};
 ghost use Rattle.bm_top.specs.steps.Ending.{Ends, HasReason, Moves, after_deciding, after_printing, after_reading, status_of};
 ghost use Rattle.bm_top.specs.steps.Printing.{after_writing};
@@ -46,13 +46,35 @@ pub(crate) fn perform<'a, W: World, S: BuildHasher + Copy + Drop>(
     ensures moves { Step (W.told world.old) (W.told world.new) (Moves (names_read (option_map requested command.entry))) }
 {
     match command {
-        Some(Command::Ask { data, query, form }) => ask(alloc, hashers, data, query, form, world),
-        Some(Command::Load { data, index }) => load(alloc, hashers, data, index, world),
-        Some(Command::Query { index, query: text, form }) => query(alloc, index, text, form, world),
-        Some(Command::Check { index }) => check(alloc, index, world),
+        Some(command) => perform_command(alloc, hashers, command, world),
         None => Ending::Refused {
             refusal: Refusal::Usage,
         },
+    }
+}
+
+fn perform_command<'a, W: World, S: BuildHasher + Copy + Drop>(
+    alloc: Global,
+    hashers: S,
+    command: Command<'a>,
+    world: &mut W,
+) -> Ending<'a>
+    requires { IfSome (W.told world.old) NothingIsMade }
+    ensures step { Step (W.told world.old) (W.told world.new)
+        (λ m n. Ends (IsRequestVerdict m.files (Some (requested command.entry))) result m n) }
+    ensures reason { HasReason (λ files. IsRequestVerdict files (Some (requested command.entry))) (files_read (requested command.entry))
+        (W.told world.old) (W.faults world.old) (W.faults world.new) result }
+    ensures moves { Step (W.told world.old) (W.told world.new) (Moves (files_read (requested command.entry))) }
+{
+    match command {
+        Command::Ask { data, query, form } => ask(alloc, hashers, data, query, form, world),
+        Command::Load { data, index } => load(alloc, hashers, data, index, world),
+        Command::Query {
+            index,
+            query: text,
+            form,
+        } => query(alloc, index, text, form, world),
+        Command::Check { index } => check(alloc, index, world),
     }
 }
 

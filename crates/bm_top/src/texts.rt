@@ -10,7 +10,11 @@ use index_file::IndexCounts;
 use itoa::Buffer;
 
 /// Prints how many triples are stored, and in how many bytes.
-pub(crate) fn print_stored<W: World>(triples: u32, bytes: usize, world: &mut W) -> Result<(), Failed>
+pub(crate) fn print_stored<W: World>(
+    triples: u32,
+    bytes: usize,
+    world: &mut W,
+) -> Result<(), Failed>
     ensures step { Step (W.told world.old) (W.told world.new) (AppendsAll with_printed (stored_text triples bytes) result) }
     ensures cause { RisesOnErr (W.faults world.old).writes (W.faults world.new).writes result }
     ensures reads_stay { (W.faults world.new).reads ≡ (W.faults world.old).reads }

@@ -10,3 +10,6 @@ returns-in-TooLong-clause-step g c =
 
 pub returns-in-TooManyTriples-clause-step : goal.returns-in-TooManyTriples-clause-step
 returns-in-TooManyTriples-clause-step g c = rw c.in-TooManyTriples.is c.complain_all-in-TooManyTriples.ensures.step
+
+pub returns-in-ImageTooLong-clause-step : goal.returns-in-ImageTooLong-clause-step
+returns-in-ImageTooLong-clause-step g c = rw c.in-ImageTooLong.is c.complain_all-in-ImageTooLong.ensures.step

@@ -1,8 +1,12 @@
-use Rattle.std.proofs.Common.{◌≤◌, [], ◌∷◌, Err, length, ap, refl, arith}
+use Rattle.std.proofs.Common.{◌≤◌, [], Ok, Err, length, ap, refl, arith}
 use Rattle.bm_world.proofs.Steps.{Step-then, Step-weaken}
 use Rattle.bm_top.specs.Standard.{IsDecidedByData, IsStoredOrTooLong}
-use Rattle.bm_top.proofs.StepsDone.{Ends-reading, Ends-unread, HasReason-unread, HasReason-later, Moves-more, Moves-unread}
+use Rattle.bm_top.proofs.StepsDone.{Ends-reading, Ends-unread, HasReason-unread, HasReason-later, Moves-more, Moves-unread, made_reading, none_made}
 use Rattle.bm_top.proofs.load.load.Goals as goal
+
+pub store_data-requires : goal.store_data-requires
+store_data-requires g c =
+    none_made _ _ c.requires (Step-weaken c.in-Ok.ensures.step (λ m k reads. made_reading c.args.data.now 536870912 (Ok c.in-Ok.bytes) m k reads))
 
 pub returns-in-Ok-clause-step : goal.returns-in-Ok-clause-step
 returns-in-Ok-clause-step g c =

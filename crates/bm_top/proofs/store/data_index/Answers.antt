@@ -1,10 +1,11 @@
-use Rattle.std.proofs.Common.{ℕ, ◌<◌, ◌≤◌, List, length, ◌∙◌, ap, subst}
+use Rattle.std.proofs.Common.{ℕ, ◌<◌, ◌≤◌, ◌^◌, List, length, sym, ◌∙◌, ap, subst, arith}
 use Rattle.std.proofs.lemmas.Result.{err_from_is_err_and}
 use Rattle.bm_term.specs.declared.triple.Triple.{Triple}
 use Rattle.bm_term.specs.Graph.{graph_of}
 use Rattle.term_numbers.specs.Limits.{max_triples}
 use Rattle.term_numbers.specs.Numbering.{Numbering, numbering_of}
 use Rattle.term_numbers.proofs.NumberLaws.{as_many_as_graph}
+use Rattle.nt_read.specs.scanning.Lines.{lines_of, triples_of}
 use Rattle.bm_top.specs.steps.Data.{IsDataOf}
 use Rattle.bm_top.proofs.Storing.{long_image, made_image, many_triples, unread_data}
 use Rattle.bm_top.proofs.store.data_index.Goals as goal
@@ -37,11 +38,17 @@ returns-in_err-bytes g c =
     let same = ap graph_of (c.deref-2.ensures.value ∙ read.1) in
     rw (p.1, p.2) (long_image c.args.data.items c.in_ok-numbers.numbers _ read.0 (subst IsWithin same c.in_ok-numbers.ensures.few) (c.in_ok-numbers.ensures.numbering ∙ ap numbering_of same) c.in_err-bytes.ensures.long)
 
+pub image-requires : goal.image-requires
+image-requires g c =
+    let P : ℕ → Type 0 = λ count. count ≤ max_triples in
+    subst P (sym (ap (λ (n : Numbering). length n.triples) c.in_ok-numbers.ensures.numbering ∙ as_many_as_graph c.deref-2.result.now)) c.in_ok-numbers.ensures.few
+
 pub returns : goal.returns
 returns g c =
     let read = rw c.deref.ensures.value at c.in_ok-triples.ensures.reads in
     let same = ap graph_of (c.deref-2.ensures.value ∙ read.1) in
     let few = subst IsWithin same c.in_ok-numbers.ensures.few in
     let numbered = c.in_ok-numbers.ensures.numbering ∙ ap numbering_of same in
-    made_image c.args.data.items c.in_ok-numbers.numbers _ read.0 few numbered c.in_ok-bytes.ensures.bytes c.in_ok-bytes.ensures.short
-    (c.triples.ensures ∙ ap (λ (n : Numbering). length n.triples) numbered ∙ as_many_as_graph _)
+    let short : length c.in_ok-bytes.bytes.items < 2 ^ 32 = omega (arith, c.in_ok-bytes.bytes.ok, c.in_ok-bytes.ensures.short) in
+    made_image c.args.data.items c.in_ok-numbers.numbers (record { triples = c.triples.result; bytes = c.in_ok-bytes.bytes }) read.0 few numbered c.in_ok-bytes.ensures.bytes short
+    (c.triples.ensures ∙ ap (λ (n : Numbering). length n.triples) numbered ∙ as_many_as_graph (triples_of (lines_of c.args.data.items)))
