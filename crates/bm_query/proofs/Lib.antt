@@ -1,0 +1,4 @@
+pub mod Examples
+pub mod GraphLaws
+pub mod TableLaws
+pub mod Values
