@@ -6,11 +6,10 @@ ghost use Rattle.alg_model.specs.Pattern.{Bgp, HasVarsBelow, algebra_of, place_v
 
 use crate::{AnswerFault, answer};
 use alg_model::{Columns, Names, PatList, Pattern, Place, Query, TriplePat, Var};
-use answer_rows::TextRows;
+use answer_rows::{Cell, TextRows};
 use bm_term::{Term, TermRef};
 use index_file::Index;
 use std::alloc::Global;
-use std::process::Abort;
 use std::test::Fail;
 
 /// The image of two triples: `<urn:a> <urn:p> <urn:b>` and `<urn:b> <urn:p> <urn:c>`.
@@ -180,26 +179,24 @@ fn query(alloc: Global, pattern: Pattern) -> Result<Query, Fail>
 }
 
 /// Puts the texts of a row at the end, with a blank between them and a semicolon after them.
-fn push_row(text: &mut String, rows: &TextRows<'_>, row: usize) -> Result<(), Fail> {
-    for column in 0..rows.width() {
+fn push_row(text: &mut Vec<u8>, row: &[Cell<'_>]) -> Result<(), Fail> {
+    for (column, cell) in row.iter().enumerate() {
         if column > 0 {
-            text.push(' ')?;
+            text.push(b' ')?;
         }
-        if row < rows.len() && column < rows.width() {
-            if let Some(term) = rows.cell(row, column) {
-                text.push_str(std::str::from_utf8(term.bytes())?)?;
-            }
+        if let Some(term) = cell.term() {
+            text.extend_from_slice(term.bytes())?;
         }
     }
-    text.push(';')?;
+    text.push(b';')?;
     Ok(())
 }
 
 /// The texts of rows.
-fn text_of(alloc: Global, rows: &TextRows<'_>) -> Result<String, Fail> {
-    let mut text = String::new(alloc);
-    for row in 0..rows.len() {
-        push_row(&mut text, rows, row)?;
+fn text_of(alloc: Global, rows: &TextRows<'_>) -> Result<Vec<u8>, Fail> {
+    let mut text = Vec::new(alloc);
+    for i in 0..rows.len() {
+        push_row(&mut text, rows.row(i))?;
     }
     Ok(text)
 }
@@ -211,7 +208,7 @@ fn answers_are_rows_in_order(rt: HostRuntime) -> Result<(), Fail> {
     for (shape, first, second, wanted) in ANSWERS {
         let query = query(alloc, pattern(alloc, shape, first, second)?)?;
         let rows = answer(alloc, &index, &query).map_err(|_| "answers")?;
-        assert_eq!(rt; text_of(alloc, &rows)?.as_str(), wanted);
+        assert!(rt; text_of(alloc, &rows)?.as_slice() == wanted.as_bytes());
     }
     Ok(())
 }
