@@ -105,6 +105,14 @@ module _ (graph : List Triple) (n : Numbering) (is : NumbersGraph graph n) where
   pub values_are_terms : (width : ℕ) (pattern : Algebra) → All (HasTerms n.terms) (eval as_terms width pattern graph)
   values_are_terms width pattern = values-eval as_terms (Contains (term_table n.terms)) width pattern graph parts_of_graph
 
+-- an index is of one graph
+pub one_graph : (graph other : List Triple) (n : Numbering) → NumbersGraph graph n → NumbersGraph other n → graph ≡ other
+one_graph graph other n is also = sym (named_again graph n is) ∙ named_again other n also
+
+-- and its slices name that one
+pub slices_are : (n : Numbering) (triples : List Triple) → NumbersSomeGraph n → triples ≡ graph_of (first_slices n (length n.terms.predicates)) → NumbersGraph triples n
+slices_are n triples some are = subst (λ g. NumbersGraph g n) (sym (are ∙ graph_of-slices some.graph n some.numbers)) some.numbers
+
 -- the pairs of the slices of an index are those of terms
 pub pairs_within : (n : Numbering) (p : ℕ) → NumbersSomeGraph n → ArePairsWithin n.terms p (pairs_in So p n.triples)
 pairs_within n p some = slice_within n (use_all_of some.graph n some.numbers) p

@@ -57,7 +57,6 @@ fn rows_of<'a>(
         IfOk result (λ answers. answers.rows ≡ answers_of query.now graph) }
     ensures width { IfOk result (λ answers. answers.width ≡ length query.now.columns) }
 {
-    index.is_of_a_graph();
     let width = query.names.len() as u8;
     let graph = graph(alloc, index)?;
     let rows = eval_plain(alloc, &query.pattern, width, &graph)?;

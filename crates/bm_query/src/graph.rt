@@ -1,10 +1,9 @@
 //! The graph of an index, as triples of terms.
 
-ghost use Rattle.std.specs.Prelude.{◌≡◌, ◌≢◌, ◌++◌, List, length, map, All, AllPairs, IfOk, OnOk};
+ghost use Rattle.std.specs.Prelude.{◌≡◌, ◌++◌, length, map, All, IfOk, OnOk};
 ghost use Rattle.bm_term.specs.Graph.{graph_of};
-ghost use Rattle.bm_term.specs.declared.triple.Triple.{Triple};
 ghost use Rattle.cube_slices.specs.Lines.{pairs_of};
-ghost use Rattle.index_file.specs.Version.{NumbersGraph};
+ghost use Rattle.index_file.specs.Version.{NumbersGraph, NumbersSomeGraph};
 ghost use Rattle.term_numbers.specs.Numbering.{named};
 ghost use Rattle.bm_query.specs.steps.Naming.{ArePairsWithin, IsWithin, first_slices, named_pairs};
 
@@ -73,14 +72,18 @@ fn push_lines(
     Ok(())
 }
 
-/// The triples of the slices of the first family.
-fn slice_triples(alloc: Global, index: &Index<'_>) -> Result<Vec<Triple>, AllocError>
-    ensures { IfOk result (λ triples.
-        triples.items ≡ first_slices index.now.numbering (length index.now.numbering.terms.predicates)) }
+/// The triples of the slices of the first family, one slice for each predicate.
+fn slice_triples(
+    alloc: Global,
+    index: &Index<'_>,
+    predicates: u32,
+) -> Result<Vec<Triple>, AllocError>
+    requires count { predicates ≡ length index.now.numbering.terms.predicates }
+    requires of_a_graph { NumbersSomeGraph index.now.numbering }
+    ensures { IfOk result (λ triples. triples.items ≡ first_slices index.now.numbering predicates) }
 {
-    index.is_of_a_graph();
     let mut triples = Vec::new(alloc);
-    for predicate in 0..index.counts().predicates {
+    for predicate in 0..predicates {
         let slice = index.slice(Family::So, predicate);
         push_lines(alloc, index, predicate, slice.lines(), &mut triples)?;
     }
@@ -89,7 +92,7 @@ fn slice_triples(alloc: Global, index: &Index<'_>) -> Result<Vec<Triple>, AllocE
 
 /// Triples as a graph: each once, in ascending order.
 fn in_order(alloc: Global, triples: Vec<Triple>) -> Result<Vec<Triple>, AllocError>
-    ensures graph { IfOk result (λ graph. graph.items ≡ graph_of triples.items) }
+    ensures { IfOk result (λ graph. graph.items ≡ graph_of triples.items) }
 {
     let mut set = BTreeSet::new(alloc);
     for triple in triples {
@@ -100,7 +103,8 @@ fn in_order(alloc: Global, triples: Vec<Triple>) -> Result<Vec<Triple>, AllocErr
 
 /// The graph of an index.
 pub(crate) fn graph(alloc: Global, index: &Index<'_>) -> Result<Vec<Triple>, AllocError>
-    ensures { (graph : List Triple) → NumbersGraph graph index.now.numbering → IfOk result (λ triples. triples.items ≡ graph) }
+    ensures { IfOk result (λ graph. NumbersGraph graph.items index.now.numbering) }
 {
-    in_order(alloc, slice_triples(alloc, index)?)
+    let counts = index.counts();
+    in_order(alloc, slice_triples(alloc, index, counts.predicates)?)
 }

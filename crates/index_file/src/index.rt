@@ -70,18 +70,15 @@ impl<'a> Index<'a> {
         }
     }
 
-    /// Its version, and how many terms of each group and how many triples it has.
+    /// Its version, and how many terms of each group and how many triples it has. An index is always that of a graph
+    /// within the limit.
     pub fn counts(&self) -> IndexCounts
         ensures counts { result ≡ counts_of self.now }
+        ensures of_a_graph { NumbersSomeGraph self.now.numbering }
         ensures few_terms { length (term_table self.now.numbering.terms) < 2 ^ 32 }
     {
         self.parts.counts()
     }
-
-    /// An index is always that of a graph within the limit. The call does nothing: its contract is the fact.
-    pub fn is_of_a_graph(&self)
-        ensures { NumbersSomeGraph self.now.numbering }
-    {}
 
     /// The term at a place of the term table.
     pub fn term(&self, value: u32) -> TermRef<'a>
