@@ -1,4 +1,5 @@
 pub mod Examples
 pub mod GraphLaws
+pub mod Pushing
 pub mod TableLaws
 pub mod Values

@@ -98,6 +98,12 @@ fn in_order(alloc: Global, triples: Vec<Triple>) -> Result<Vec<Triple>, AllocErr
     for triple in triples {
         set.insert(triple)?;
     }
+    ascending(alloc, set)
+}
+
+fn ascending(alloc: Global, set: BTreeSet<Triple>) -> Result<Vec<Triple>, AllocError>
+    ensures { IfOk result (λ triples. triples.items ≡ set.keys) }
+{
     set.into_iter().collect(alloc)
 }
 

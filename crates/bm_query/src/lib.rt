@@ -4,7 +4,7 @@
 //! and in order, or says why the query is refused. The rows borrow their terms from the bytes of the index.
 #![tactic(auto)]
 
-mod answer;
+mod answering;
 mod fault;
 mod graph;
 mod rows;
@@ -12,5 +12,5 @@ mod terms;
 #[cfg(test)]
 mod tests;
 
-pub use answer::answer;
+pub use answering::answer;
 pub use fault::AnswerFault;
