@@ -1,15 +1,18 @@
 -- Triples that are put at the end of a list, line by line and slice by slice.
-use Rattle.std.proofs.Common.{◌≡◌, ℕ, ◌+◌, List, [], ◌∷◌, ◌++◌, map, flat_map, All, sym, ap, ◌∙◌, subst, append_assoc}
+use Rattle.std.proofs.Common.{◌≡◌, ℕ, zero, suc, ◌+◌, List, [], ◌∷◌, ◌++◌, map, flat_map, All, sym, ap, ◌∙◌, subst, append_assoc, add-zero, add-one, arith}
 use Rattle.std.proofs.lemmas.Grind.{flat_map-append}
-use Rattle.std.proofs.lemmas.List.{map-append}
+use Rattle.std.proofs.lemmas.List.{map-append, append-nil}
 use Rattle.std.proofs.lemmas.List.Elements.{All-contains, Contains-append_left, Contains-append_right}
 use Rattle.std.proofs.lemmas.Simd.{map-map}
 use Rattle.bm_term.specs.declared.triple.Triple.{Triple}
 use Rattle.cube_slices.specs.Lines.{Line, pairs_of, pairs_of_line}
+use Rattle.std.specs.List.{range_with_len}
+use Rattle.index_file.specs.Families.{pairs_in}
+use Rattle.index_file.specs.declared.family.Family.TheVariants.{So}
 use Rattle.index_file.proofs.StoredLaws.{All-members}
-use Rattle.term_numbers.specs.Numbering.{Terms, named}
+use Rattle.term_numbers.specs.Numbering.{Terms, Numbering, named}
 use Rattle.term_numbers.proofs.NumberingLaws.{Contains-map}
-use Rattle.bm_query.specs.steps.Naming.{IsWithin, named_pair, named_pairs, ArePairsWithin}
+use Rattle.bm_query.specs.steps.Naming.{IsWithin, named_pair, named_pairs, ArePairsWithin, first_slices}
 
 -- what holds of two lists holds of each
 All-left : {X : Type 0} (P : X → Type 0) (xs ys : List X) → All P (xs ++ ys) → All P xs
@@ -47,3 +50,19 @@ module _ (terms : Terms) (n : ℕ) where
       let parts : named_pairs terms n (pairs_of lines) ≡ first ++ left =
           ap (λ ls. named_pairs terms n (pairs_of ls)) is ∙ map-append (named_pair terms n) (pairs_of_line line) (pairs_of rest) ∙ ap (λ ts. ts ++ left) (map-map (named_pair terms n) (λ c. (row, c)) columns) in
       ap (λ ts. ts ++ left) grown ∙ append_assoc before first left ∙ ap (λ ts. before ++ ts) (sym parts) ∙ whole
+
+-- a number more in a range
+range_more : (a n : ℕ) → range_with_len a (suc n) ≡ range_with_len a n ++ (a + n) ∷ []
+range_more a zero = ap (λ k. k ∷ []) (sym (add-zero a))
+range_more a (suc n) =
+    let last : a + 1 + n ≡ a + suc n = omega arith in
+    ap (λ ks. a ∷ ks) (range_more (a + 1) n ∙ ap (λ k. range_with_len (a + 1) n ++ k ∷ []) last)
+
+-- the triples of a slice more
+pub push_slice : (n : Numbering) (p : ℕ) (before after added : List Triple) → before ≡ first_slices n p → after ≡ before ++ added → added ≡ named_pairs n.terms p (pairs_in So p n.triples) → after ≡ first_slices n (p + 1)
+push_slice n p before after added are grown is =
+    let f : ℕ → List Triple = λ k. named_pairs n.terms k (pairs_in So k n.triples) in
+    let last : 0 + p ≡ p = omega arith in
+    let range : range_with_len 0 (p + 1) ≡ range_with_len 0 p ++ p ∷ [] = ap (range_with_len 0) (add-one p) ∙ range_more 0 p ∙ ap (λ k. range_with_len 0 p ++ k ∷ []) last in
+    let whole : first_slices n (p + 1) ≡ first_slices n p ++ f p = ap (flat_map f) range ∙ flat_map-append f (range_with_len 0 p) (p ∷ []) ∙ ap (λ ts. first_slices n p ++ ts) (append-nil (f p)) in
+    grown ∙ (λ i. are i ++ is i) ∙ sym whole
