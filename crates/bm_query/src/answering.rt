@@ -12,10 +12,12 @@ ghost use Rattle.bm_query.specs.Faults.{fault_of};
 ghost use Rattle.bm_query.specs.declared.fault.AnswerFault.TheVariants.{Memory};
 
 use crate::fault::AnswerFault;
-use alg_model::Query;
-use answer_rows::TextRows;
+use crate::graph::graph;
+use crate::rows::borrowed_rows;
+use alg_model::{Query, eval_plain};
+use answer_rows::{TextRows, project_sort};
 use index_file::Index;
-use std::alloc::Global;
+use std::alloc::{AllocError, Global};
 use well_designed::refusal_of;
 
 /// The answers of a query over the graph of an index: the rows of its pattern (SPARQL 1.1 Query, section 18.5), cut to
@@ -38,5 +40,26 @@ pub fn answer<'a>(
     if let Some(refusal) = refusal_of(&query.pattern) {
         return Err(AnswerFault::from(refusal));
     }
-    Err(AnswerFault::Memory)
+    match rows_of(alloc, index, query) {
+        Ok(rows) => Ok(rows),
+        Err(AllocError) => Err(AnswerFault::Memory),
+    }
+}
+
+/// The answers, whatever the pattern.
+fn rows_of<'a>(
+    alloc: Global,
+    index: &Index<'a>,
+    query: &Query,
+) -> Result<TextRows<'a>, AllocError>
+    requires { KeepsLimits query.now }
+    ensures rows { (graph : List Triple) → NumbersGraph graph index.now.numbering →
+        IfOk result (λ answers. answers.rows ≡ answers_of query.now graph) }
+    ensures width { IfOk result (λ answers. answers.width ≡ length query.now.columns) }
+{
+    let width = query.names.len() as u8;
+    let graph = graph(alloc, index)?;
+    let rows = eval_plain(alloc, &query.pattern, width, &graph)?;
+    let rows = borrowed_rows(alloc, index, &rows, width)?;
+    project_sort(alloc, rows, query)
 }
