@@ -1,5 +1,5 @@
 -- The slices of an index name the triples of its graph, and the values of rows over that graph are terms of the index.
-use Rattle.std.proofs.Common.{◌≡◌, ◌≢◌, ◌↔◌, ℕ, ◌+◌, ◌<◌, inl, inr, List, [], ◌++◌, length, get_or, map, flat_map, All, AllPairs, Contains, sym, ap, ◌∙◌, subst, arith, append_assoc}
+use Rattle.std.proofs.Common.{◌≡◌, ◌≢◌, ◌↔◌, ℕ, ◌<◌, inl, inr, List, [], ◌++◌, length, get_or, map, All, AllPairs, Contains, sym, ap, ◌∙◌, subst, arith, append_assoc}
 use Rattle.std.proofs.lemmas.List.Elements.{Contains-get_or, Contains-append_left, Contains-append_right, Contains-append_cases}
 use Rattle.std.proofs.lemmas.List.FromFn.{length-range_with_len, get_or-range_with_len}
 use Rattle.std.specs.List.{range_with_len}
@@ -11,10 +11,10 @@ use Rattle.bm_term.specs.declared.triple.Triple.{Triple}
 use Rattle.bm_term.proofs.Sets.{AllPairs-ascending}
 use Rattle.bm_term.proofs.TripleOrder.{triple_cmp-total, triple_cmp-exact}
 use Rattle.term_numbers.specs.Order.{Numbered}
-use Rattle.term_numbers.specs.Numbering.{Terms, Numbering, all_subjects, all_objects, term_table, terms_of, named, numbering_of}
+use Rattle.term_numbers.specs.Numbering.{Numbering, all_subjects, all_objects, term_table, named}
 use Rattle.term_numbers.proofs.Ascending.{set_of-same}
 use Rattle.term_numbers.proofs.NumberingLaws.{from_map, Contains-map}
-use Rattle.index_file.specs.Families.{pairs_in, triple_at}
+use Rattle.index_file.specs.Families.{pairs_in}
 use Rattle.index_file.specs.Version.{NumbersGraph, NumbersSomeGraph}
 use Rattle.index_file.specs.declared.family.Family.TheVariants.{So}
 use Rattle.index_file.proofs.FamilyLaws.{in_slice}

@@ -22,9 +22,9 @@ All-right : {X : Type 0} (P : X → Type 0) (xs ys : List X) → All P (xs ++ ys
 All-right P xs ys all = All-members P ys (λ y at. All-contains P (xs ++ ys) y all (Contains-append_right xs ys y at))
 
 -- an item more, of those that are left
-pub push_item : {X Y : Type 0} (f : X → Y) (before after all : List Y) (left : List X) (x : X) (rest : List X) → left ≡ x ∷ rest → before ++ map f left ≡ all → after ≡ before ++ f x ∷ [] → after ++ map f rest ≡ all
-push_item f before after all left x rest is whole grown =
-    ap (λ ys. ys ++ map f rest) grown ∙ append_assoc before (f x ∷ []) (map f rest) ∙ ap (λ xs. before ++ map f xs) (sym is) ∙ whole
+pub push_item : {X Y : Type 0} (f : X → Y) (before after all : List Y) (added : Y) (left : List X) (x : X) (rest : List X) → left ≡ x ∷ rest → before ++ map f left ≡ all → after ≡ before ++ added ∷ [] → added ≡ f x → after ++ map f rest ≡ all
+push_item f before after all added left x rest is whole grown same =
+    ap (λ ys. ys ++ map f rest) (grown ∙ ap (λ y. before ++ y ∷ []) same) ∙ append_assoc before (f x ∷ []) (map f rest) ∙ ap (λ xs. before ++ map f xs) (sym is) ∙ whole
 
 module _ (terms : Terms) (n : ℕ) where
   -- the columns of the first line are those of terms, and so are the pairs of the others
@@ -48,7 +48,7 @@ module _ (terms : Terms) (n : ℕ) where
       let first : List Triple = map (λ object. named terms (row, n, object)) columns in
       let left : List Triple = named_pairs terms n (pairs_of rest) in
       let parts : named_pairs terms n (pairs_of lines) ≡ first ++ left =
-          ap (λ ls. named_pairs terms n (pairs_of ls)) is ∙ map-append (named_pair terms n) (pairs_of_line line) (pairs_of rest) ∙ ap (λ ts. ts ++ left) (map-map (named_pair terms n) (λ c. (row, c)) columns) in
+      ap (λ ls. named_pairs terms n (pairs_of ls)) is ∙ map-append (named_pair terms n) (pairs_of_line line) (pairs_of rest) ∙ ap (λ ts. ts ++ left) (map-map (named_pair terms n) (λ c. (row, c)) columns) in
       ap (λ ts. ts ++ left) grown ∙ append_assoc before first left ∙ ap (λ ts. before ++ ts) (sym parts) ∙ whole
 
 -- a number more in a range

@@ -1,5 +1,5 @@
 -- For the tests: queries of three variables and two triple patterns keep the limits.
-use Rattle.std.proofs.Common.{◌≡◌, ◌≢◌, ℕ, zero, suc, ◌<◌, ◌≤◌, ◌++◌, List, [], ◌∷◌, length, map, get_or, All, AllPairs, IsUtf8, IsAscii, codes, sym, ap, ◌∙◌, subst, arith, lit≤, lit<, length-append}
+use Rattle.std.proofs.Common.{◌≡◌, ◌≢◌, ℕ, zero, suc, ◌<◌, ◌++◌, List, [], ◌∷◌, length, map, get_or, All, AllPairs, IsUtf8, IsAscii, codes, sym, ap, ◌∙◌, subst, arith, lit≤, lit<, length-append}
 use Rattle.std.proofs.lemmas.List.{length-map, map-append}
 use Rattle.std.proofs.lemmas.List.Elements.{All-nil, All-cons, All-append}
 use Rattle.std.proofs.lemmas.List.Kept.{AllPairs-cons}

@@ -1,5 +1,5 @@
 -- Each value of a row of a pattern is a part of a triple.
-use Rattle.std.proofs.Common.{◌≡◌, ℕ, Bool, true, false, List, [], ◌∷◌, fold, All, Option, Some, None, IfSome, if◌then◌else◌, not, zip, map}
+use Rattle.std.proofs.Common.{ℕ, Bool, true, false, List, [], ◌∷◌, fold, All, Option, Some, None, IfSome, if◌then◌else◌, not}
 use Rattle.std.proofs.lemmas.List.Elements.{All-nil, All-cons, All-head, All-tail, All-append, All-filter, All-replicate, All-set}
 use Rattle.std.specs.List.{filter_map, list_any}
 use Rattle.alg_model.specs.declared.pattern.Place.{Place}

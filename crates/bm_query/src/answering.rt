@@ -47,11 +47,7 @@ pub fn answer<'a>(
 }
 
 /// The answers, whatever the pattern.
-fn rows_of<'a>(
-    alloc: Global,
-    index: &Index<'a>,
-    query: &Query,
-) -> Result<TextRows<'a>, AllocError>
+fn rows_of<'a>(alloc: Global, index: &Index<'a>, query: &Query) -> Result<TextRows<'a>, AllocError>
     requires { KeepsLimits query.now }
     ensures rows { (graph : List Triple) → NumbersGraph graph index.now.numbering →
         IfOk result (λ answers. answers.rows ≡ answers_of query.now graph) }

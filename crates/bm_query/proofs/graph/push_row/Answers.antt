@@ -1,4 +1,3 @@
-use Rattle.std.proofs.Common.{◌++◌, [], ◌∷◌, ap, ◌∙◌}
 use Rattle.std.proofs.lemmas.List.Elements.{All-rest}
 use Rattle.term_numbers.specs.Numbering.{named}
 use Rattle.bm_query.specs.steps.Naming.{IsWithin}
@@ -10,6 +9,5 @@ loop-object-preserved c =
     let terms = c.args.index.now.numbering.terms in
     record {
       within = All-rest (λ object. IsWithin terms (c.args.subject, c.args.predicate, object)) c.in-Some.object _ _ c.in-Some.ensures.steps c.loop-object.invariant.within;
-      pushed = push_item (λ object. named terms (c.args.subject, c.args.predicate, object)) c.loop-object.into.items _ _ _ c.in-Some.object _ c.in-Some.ensures.steps c.loop-object.invariant.pushed
-          (c.in_ok-push.ensures.items ∙ ap (λ triple. c.loop-object.into.items ++ triple ∷ []) c.in_ok-triple.ensures);
+      pushed = push_item (λ object. named terms (c.args.subject, c.args.predicate, object)) c.loop-object.into.items _ _ _ _ c.in-Some.object _ c.in-Some.ensures.steps c.loop-object.invariant.pushed c.in_ok-push.ensures.items c.in_ok-triple.ensures;
     }
