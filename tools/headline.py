@@ -4,8 +4,8 @@
     tools/headline.py            # writes the page
     tools/headline.py --check    # only says whether the page is current; status 1 where it is not
 
-The headline is the clause `answers` of `run`, which speaks of any world that meets the trait `World`. The script begins
-with the words of these two and of the other clauses of `run`. It follows each word to its definition in a specs file, by
+The headline is the clause `answers` of `run`, with its second half `answers_of_index`, and speaks of any world that meets the
+trait `World`. The script begins with the words of these and of the other clauses of `run`. It follows each word to its definition in a specs file, by
 the `use` lines, and the words of that definition on. Proofs are not followed. It goes by names: a word that a definition
 uses as a name of its own can bring in a definition of that name, so the page may have too much, and not too little."""
 import pathlib
@@ -15,14 +15,15 @@ import sys
 TOP = pathlib.Path(__file__).resolve().parent.parent
 PAGE = TOP / "docs" / "HEADLINE.md"
 HEADLINE = "answers"
+SECOND_HALF = "answers_of_index"
 LONG = 100
 FRONT = f"""\
 # What the headline rests on
 
 Made by `tools/headline.py`; `tools/headline.py --check` says whether it is current.
 
-The headline of this program is the clause `{HEADLINE}` of `run`. It speaks of any world that meets the trait `World`. Whoever
-wants to know what it says has to read these two and the definitions below, and no proof: the prover has read those. The
+The headline of this program is the clause `{HEADLINE}` of `run`, and its second half `{SECOND_HALF}`. They speak of any world that meets the trait `World`. Whoever
+wants to know what they say has to read these and the definitions below, and no proof: the prover has read those. The
 lowest crate comes first, and a file after those that it uses. *Lines* are those of the file, *cited* those of the
 definitions that are reached, with their comments; the last column names these where they are not all. A table has only
 what no earlier table has.""".splitlines()
@@ -218,15 +219,18 @@ def roots():
     top, trait = "crates/bm_top/src/top.rt", "crates/bm_world/src/world.rt"
     contract, uses = part_of(top, "pub fn run", "\n{\n")
     clauses = [without_comments(clause) for clause in contract.split("\n    ensures ")[1:]]
-    headline = [clause for clause in clauses if clause.startswith(HEADLINE + " ")]
-    others = [clause for clause in clauses if clause not in headline]
-    if not headline:
-        sys.exit(f"`run` has no clause `{HEADLINE}`")
+    headline, second = (
+        [clause for clause in clauses if clause.startswith(name + " ")] for name in (HEADLINE, SECOND_HALF)
+    )
+    others = [clause for clause in clauses if clause not in headline + second]
+    if not headline or not second:
+        sys.exit(f"`run` has no clause `{HEADLINE}`, or none `{SECOND_HALF}`")
     world, world_uses = part_of(trait, "pub trait World", "\n}\n")
     names = ", ".join(f"`{clause.split()[0]}`" for clause in others)
     return [
         (f"The headline, clause `{HEADLINE}` of `run`", top, "\n".join(headline), uses),
         ("The world, trait `World`", trait, world, world_uses),
+        (f"Its second half, clause `{SECOND_HALF}` of `run`", top, "\n".join(second), uses),
         (f"The other clauses of `run`: {names}", top, "\n".join(others), uses),
     ]
 
