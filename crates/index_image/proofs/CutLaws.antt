@@ -1,7 +1,6 @@
 -- Laws of slices that are written one after the other, and of how long they are.
-use Rattle.std.proofs.Common.{◌≡◌, ℕ, zero, suc, ◌+◌, ◌-◌, ◌*◌, ◌<◌, ◌≤◌, List, [], ◌∷◌, ◌++◌, length, take, drop, map, get_or, sym, ap, ◌∙◌, subst, arith, add-one, add-zero, zero-add, append_assoc, length-append, length-drop}
-use Rattle.std.proofs.Math.Seq.{drop-append-add}
-use Rattle.std.proofs.lemmas.List.{map-append, append-nil, drop-drop, length-take}
+use Rattle.std.proofs.Common.{◌≡◌, ℕ, zero, suc, ◌+◌, ◌-◌, ◌*◌, ◌<◌, ◌≤◌, List, [], ◌∷◌, ◌++◌, length, take, drop, map, get_or, sym, ap, ◌∙◌, subst, arith, add-one, add-zero, zero-add, length-append}
+use Rattle.std.proofs.lemmas.List.{map-append, append-nil}
 use Rattle.std.specs.List.{flat_map, range_with_len}
 use Rattle.byte_tables.specs.Pairs.{pair_bytes}
 use Rattle.byte_tables.specs.Pieces.{joined}
@@ -17,6 +16,7 @@ use Rattle.index_file.specs.Families.{pairs_in}
 use Rattle.index_file.specs.Image.{pair_slice}
 use Rattle.index_file.specs.declared.family.Family.{Family}
 use Rattle.index_file.proofs.WritingLaws.{length-joined}
+use Rattle.index_image.proofs.ItemLaws.{drop_same}
 use Rattle.index_image.proofs.OrderLaws.{pairs_few}
 use Rattle.index_image.proofs.PieceWriterLaws.{PutsPieces-then}
 use Rattle.index_image.proofs.SpreadLaws.{keys_before-le, keys_before-more, keys_before-mono}
@@ -46,30 +46,16 @@ IsWithin-left n start end keys ends pairs are low start-is end-is =
       part = (λ i. take (count i) (drop (start-is i) pairs)) ∙ are.part n (omega arith) low;
     }
 
--- what is written over places before others leaves those
-drop-over : {X : Type 0} (xs ys : List X) (start end from : ℕ) → start + length ys ≡ end → end ≤ length xs → end ≤ from → drop from (take start xs ++ (ys ++ drop end xs)) ≡ drop from xs
-drop-over xs ys start end from long room later =
-    let front = take start xs ++ ys in
-    let front_long : length front ≡ end = omega (arith, length-append (take start xs) ys, length-take start xs, long) in
-    let e : from ≡ length front + (from - end) = omega (arith, front_long) in
-    let again : from - end + end ≡ from = omega arith in
-    (λ i. drop (e i) (sym (append_assoc (take start xs) ys (drop end xs)) i)) ∙ drop-append-add front (drop end xs) (from - end)
-    ∙ drop-drop (from - end) end xs ∙ ap (λ n. drop n xs) (let f : end + (from - end) ≡ from = omega arith in f)
-
 -- the pairs of a slice are put in order, and the later slices are left
-pub AreLeft-after : (n start end : ℕ) (keys : List Numbered) (ends : List ℕ) (pairs ordered new : List (ℕ × ℕ)) → AreLeft n keys ends pairs → n < length ends → start ≡ keys_before keys n → end ≡ get_or ends n 0
-    → start + length ordered ≡ end → new ≡ take start pairs ++ (ordered ++ drop end pairs) → AreLeft (n + 1) keys ends new
-AreLeft-after n start end keys ends pairs ordered new are low start-is end-is long new-is =
-    let cut = IsWithin-left n start end keys ends pairs are low start-is end-is in
-    let new_long : length new ≡ length pairs = omega (arith, ap length new-is, length-append (take start pairs) (ordered ++ drop end pairs), length-append ordered (drop end pairs), length-take start pairs, length-drop end pairs, cut.room, long) in
-    record {
-      end = are.end;
-      part = λ m later within.
-          ap (λ (l : List (ℕ × ℕ)). take (key_count keys m) (drop (keys_before keys m) l)) new-is
-          ∙ ap (take (key_count keys m)) (drop-over pairs ordered start end (keys_before keys m) long cut.room (omega (arith, cut.before, keys_before-mono keys (n + 1) m later)))
-          ∙ are.part m (omega arith) within;
-      whole = omega (arith, new_long, are.whole);
-    }
+pub AreLeft-after : (n end : ℕ) (keys : List Numbered) (ends : List ℕ) (pairs new : List (ℕ × ℕ)) → AreLeft n keys ends pairs → n < length ends → end ≡ get_or ends n 0
+    → drop end new ≡ drop end pairs → length new ≡ length pairs → AreLeft (n + 1) keys ends new
+AreLeft-after n end keys ends pairs new are low end-is same long = record {
+  end = are.end;
+  part = λ m later within.
+      ap (take (key_count keys m)) (drop_same pairs new end (keys_before keys m) (omega (arith, end-is, are.end n low, keys_before-mono keys (n + 1) m later)) same)
+      ∙ are.part m (omega arith) within;
+  whole = omega (arith, long, are.whole);
+}
 
 -- ---- how long slices are
 

@@ -7,7 +7,7 @@ ghost use Rattle.index_file.specs.Image.{slices_for, family_pairs, all_pairs, pa
 ghost use Rattle.index_image.specs.steps.Measuring.{slice_part_of};
 ghost use Rattle.index_image.specs.steps.Writing.{PutsPieces};
 
-use crate::order::order;
+use crate::order::order_part;
 use crate::piece_writer::PieceWriter;
 use crate::spread::spread;
 use index_file::Family;
@@ -57,7 +57,7 @@ fn push_family(
     let mut start = 0;
     for n in 0..room.ends.len() {
         let end = room.ends[n] as usize;
-        order(&mut room.pairs[start..end])?;
+        order_part(&mut room.pairs, start, end)?;
         into.push_slice(form, &room.pairs[start..end], &mut room.columns)?;
         start = end;
     }

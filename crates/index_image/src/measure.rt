@@ -9,7 +9,7 @@ ghost use Rattle.index_image.specs.steps.Measuring.{IsEnd, IsMeasured, IsMost, s
 
 use crate::family_slices::Room;
 use crate::fault::ImageFault;
-use crate::order::order;
+use crate::order::order_part;
 use crate::piece_writer::append_pairs;
 use crate::spread::spread;
 use index_file::Family;
@@ -100,7 +100,7 @@ fn add_family(
     let mut size = from;
     for n in 0..room.ends.len() {
         let end = room.ends[n] as usize;
-        order(&mut room.pairs[start..end])?;
+        order_part(&mut room.pairs, start, end)?;
         room.slice.clear();
         append_pairs(
             form,
