@@ -1,7 +1,8 @@
 -- Laws of slices that are written one after the other, and of how long they are.
 use Rattle.std.proofs.Common.{◌≡◌, ℕ, zero, suc, ◌+◌, ◌-◌, ◌*◌, ◌<◌, ◌≤◌, List, [], ◌∷◌, ◌++◌, length, take, drop, map, get_or, sym, ap, ◌∙◌, subst, arith, add-one, add-zero, zero-add, length-append}
-use Rattle.std.proofs.lemmas.List.{map-append, append-nil}
+use Rattle.std.proofs.lemmas.List.{length-map, map-append, append-nil, get_or_default}
 use Rattle.std.specs.List.{flat_map, range_with_len}
+use Rattle.bm_term.specs.SetOf.{set_of}
 use Rattle.byte_tables.specs.Pairs.{pair_bytes}
 use Rattle.byte_tables.specs.Pieces.{joined}
 use Rattle.byte_tables.proofs.PairLaws.{length-flat_map-pair_bytes}
@@ -12,15 +13,15 @@ use Rattle.cube_slices.proofs.PairLaws.{pairs_of-lines_of}
 use Rattle.cube_slices.proofs.WritingLaws.{length-lines_of-le, length-bytes_of_lines-le}
 use Rattle.run_rows.specs.declared.form.RowForm.{RowForm}
 use Rattle.term_numbers.specs.Order.{Numbered}
-use Rattle.index_file.specs.Families.{pairs_in}
+use Rattle.index_file.specs.Families.{pair_cmp, pairs_in}
 use Rattle.index_file.specs.Image.{pair_slice}
 use Rattle.index_file.specs.declared.family.Family.{Family}
 use Rattle.index_file.proofs.WritingLaws.{length-joined}
 use Rattle.index_image.proofs.ItemLaws.{drop_same}
-use Rattle.index_image.proofs.OrderLaws.{pairs_few}
+use Rattle.index_image.proofs.OrderLaws.{pairs_few, set_of_key_pairs}
 use Rattle.index_image.proofs.PieceWriterLaws.{PutsPieces-then}
-use Rattle.index_image.proofs.SpreadLaws.{keys_before-le, keys_before-more, keys_before-mono}
-use Rattle.index_image.specs.steps.Spreading.{keys_of, key_pairs, key_count, keys_before, AreLeft}
+use Rattle.index_image.proofs.SpreadLaws.{key_count-le, keys_before-le, keys_before-more, keys_before-mono}
+use Rattle.index_image.specs.steps.Spreading.{key_of, keys_of, key_pairs, key_count, keys_before, AreLeft}
 use Rattle.index_image.specs.steps.Writing.{Writing, PutsPieces}
 
 -- ---- the places of one slice
@@ -33,9 +34,10 @@ pub record IsWithin (n start end : ℕ) (keys : List Numbered) (pairs : List (�
   pub room : end ≤ length pairs
   pub part : take (end - start) (drop start pairs) ≡ key_pairs keys n
 
-pub IsWithin-left : (n start end : ℕ) (keys : List Numbered) (ends : List ℕ) (pairs : List (ℕ × ℕ)) → AreLeft n keys ends pairs → n < length ends → start ≡ keys_before keys n → end ≡ get_or ends n 0 → IsWithin n start end keys pairs
-IsWithin-left n start end keys ends pairs are low start-is end-is =
-    let before : end ≡ keys_before keys (n + 1) = end-is ∙ are.end n low in
+pub IsWithin-left : (n start end count : ℕ) (keys : List Numbered) (ends : List ℕ) (pairs : List (ℕ × ℕ)) → AreLeft n keys ends pairs → length ends ≡ count → n < count → start ≡ keys_before keys n → end ≡ get_or ends n end → IsWithin n start end keys pairs
+IsWithin-left n start end count keys ends pairs are many low start-is end-is =
+    let within : n < length ends = omega (arith, many, low) in
+    let before : end ≡ keys_before keys (n + 1) = end-is ∙ get_or_default ends n end 0 within ∙ are.end n within in
     let long : end ≡ start + key_count keys n = omega (arith, before, start-is, keys_before-more keys n) in
     let count : end - start ≡ key_count keys n = omega (arith, long) in
     record {
@@ -43,19 +45,28 @@ IsWithin-left n start end keys ends pairs are low start-is end-is =
       before = before;
       within = omega (arith, before, keys_before-le keys (n + 1));
       room = omega (arith, before, keys_before-le keys (n + 1), are.whole);
-      part = (λ i. take (count i) (drop (start-is i) pairs)) ∙ are.part n (omega arith) low;
+      part = (λ i. take (count i) (drop (start-is i) pairs)) ∙ are.part n (omega arith) within;
     }
 
--- the pairs of a slice are put in order, and the later slices are left
-pub AreLeft-after : (n end : ℕ) (keys : List Numbered) (ends : List ℕ) (pairs new : List (ℕ × ℕ)) → AreLeft n keys ends pairs → n < length ends → end ≡ get_or ends n 0
-    → drop end new ≡ drop end pairs → length new ≡ length pairs → AreLeft (n + 1) keys ends new
-AreLeft-after n end keys ends pairs new are low end-is same long = record {
+-- when they are in order, they are the pairs of the family there
+pub part_in_order : (f : Family) (ts : List Numbered) (n start end : ℕ) (pairs new now part : List (ℕ × ℕ)) → IsWithin n start end (keys_of f ts) pairs → take (end - start) (drop start new) ≡ set_of pair_cmp (take (end - start) (drop start pairs))
+    → now ≡ new → part ≡ take (end - start) (drop start now) → part ≡ pairs_in f n ts
+part_in_order f ts n start end pairs new now part cut ordered now-is part-is =
+    part-is ∙ ap (λ (ps : List (ℕ × ℕ)). take (end - start) (drop start ps)) now-is ∙ ordered ∙ ap (set_of pair_cmp) cut.part ∙ set_of_key_pairs f ts n
+
+-- and the later slices are left
+pub AreLeft-after : (n end : ℕ) (keys : List Numbered) (ends : List ℕ) (pairs new : List (ℕ × ℕ)) → AreLeft n keys ends pairs → end ≡ keys_before keys (n + 1) → drop end new ≡ drop end pairs → length new ≡ length pairs → AreLeft (n + 1) keys ends new
+AreLeft-after n end keys ends pairs new are end-is same long = record {
   end = are.end;
   part = λ m later within.
-      ap (take (key_count keys m)) (drop_same pairs new end (keys_before keys m) (omega (arith, end-is, are.end n low, keys_before-mono keys (n + 1) m later)) same)
+      ap (take (key_count keys m)) (drop_same pairs new end (keys_before keys m) (omega (arith, end-is, keys_before-mono keys (n + 1) m later)) same)
       ∙ are.part m (omega arith) within;
   whole = omega (arith, long, are.whole);
 }
+
+-- no more pairs are there than triples
+pub part_few : (f : Family) (ts : List Numbered) (n : ℕ) (part : List (ℕ × ℕ)) → part ≡ pairs_in f n ts → length part ≤ length ts
+part_few f ts n part is = omega (arith, ap length is, pairs_few f ts n, key_count-le (keys_of f ts) n, length-map ts (key_of f))
 
 -- ---- how long slices are
 

@@ -7,7 +7,7 @@ ghost use Rattle.index_file.specs.Image.{slices_for, family_pairs, all_pairs, pa
 ghost use Rattle.index_image.specs.steps.Measuring.{slice_part_of};
 ghost use Rattle.index_image.specs.steps.Writing.{PutsPieces};
 
-use crate::order::order_part;
+use crate::order::{order_part, part};
 use crate::piece_writer::PieceWriter;
 use crate::spread::spread;
 use index_file::Family;
@@ -58,7 +58,7 @@ fn push_family(
     for n in 0..room.ends.len() {
         let end = room.ends[n] as usize;
         order_part(&mut room.pairs, start, end)?;
-        into.push_slice(form, &room.pairs[start..end], &mut room.columns)?;
+        into.push_slice(form, part(&room.pairs, start, end), &mut room.columns)?;
         start = end;
     }
     Ok(())

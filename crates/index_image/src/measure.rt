@@ -9,7 +9,7 @@ ghost use Rattle.index_image.specs.steps.Measuring.{IsEnd, IsMeasured, IsMost, s
 
 use crate::family_slices::Room;
 use crate::fault::ImageFault;
-use crate::order::order_part;
+use crate::order::{order_part, part};
 use crate::piece_writer::append_pairs;
 use crate::spread::spread;
 use index_file::Family;
@@ -104,7 +104,7 @@ fn add_family(
         room.slice.clear();
         append_pairs(
             form,
-            &room.pairs[start..end],
+            part(&room.pairs, start, end),
             &mut room.columns,
             &mut room.slice,
         )?;
