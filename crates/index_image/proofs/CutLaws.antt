@@ -39,13 +39,13 @@ IsWithin-left n start end count keys ends pairs are many low start-is end-is =
     let within : n < length ends = omega (arith, many, low) in
     let before : end ≡ keys_before keys (n + 1) = end-is ∙ get_or_default ends n end 0 within ∙ are.end n within in
     let long : end ≡ start + key_count keys n = omega (arith, before, start-is, keys_before-more keys n) in
-    let count : end - start ≡ key_count keys n = omega (arith, long) in
+    let size : end - start ≡ key_count keys n = omega (arith, long) in
     record {
       long = long;
       before = before;
       within = omega (arith, before, keys_before-le keys (n + 1));
       room = omega (arith, before, keys_before-le keys (n + 1), are.whole);
-      part = (λ i. take (count i) (drop (start-is i) pairs)) ∙ are.part n (omega arith) within;
+      part = (λ i. take (size i) (drop (start-is i) pairs)) ∙ are.part n (omega arith) within;
     }
 
 -- when they are in order, they are the pairs of the family there

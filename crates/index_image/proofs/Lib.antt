@@ -1,4 +1,5 @@
 pub mod CutLaws
+pub mod Examples
 pub mod ItemLaws
 pub mod MeasureLaws
 pub mod OrderLaws
