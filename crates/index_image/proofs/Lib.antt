@@ -1,4 +1,7 @@
 pub mod CutLaws
+pub mod Examples
+pub mod ItemLaws
 pub mod MeasureLaws
+pub mod OrderLaws
 pub mod PieceWriterLaws
-pub mod SortLaws
+pub mod SpreadLaws

@@ -1,8 +1,9 @@
 -- Laws of the image of a numbering: how long it is, and that it is made of its parts.
-use Rattle.std.proofs.Common.{◌≡◌, ℕ, zero, suc, ◌+◌, ◌-◌, ◌*◌, ◌^◌, ◌<◌, ◌≤◌, List, [], ◌∷◌, ◌++◌, length, take, drop, map, Result, Ok, Err, Some, OnOk, is_ok, cond, refl, sym, ap, ◌∙◌, subst, arith, add-one, append_assoc, length-append}
+use Rattle.std.proofs.Common.{◌≡◌, ℕ, ◌+◌, ◌*◌, ◌^◌, ◌<◌, ◌≤◌, List, [], ◌∷◌, ◌++◌, length, take, drop, map, Result, Ok, Err, Some, OnOk, is_ok, cond, refl, sym, ap, ◌∙◌, subst, arith, append_assoc, length-append}
 use Rattle.std.proofs.Math.Seq.{drop-append_seam}
 use Rattle.byte_tables.proofs.NumberLaws.{length-number_bytes}
 use Rattle.std.proofs.lemmas.List.{length-map, map-append, append-nil, take-append-drop}
+use Rattle.std.proofs.lemmas.Simd.{map-map}
 use Rattle.std.specs.Int.{w32, to_le_bytes}
 use Rattle.std.specs.List.{range_with_len, slice_get}
 use Rattle.cube_slices.specs.Slices.{slice_bytes}
@@ -15,14 +16,15 @@ use Rattle.term_numbers.specs.Numbering.{Numbering, term_table}
 use Rattle.term_numbers.specs.Order.{Numbered}
 use Rattle.term_numbers.proofs.NumberLaws.{as_many}
 use Rattle.index_image.proofs.CutLaws.{slices_are_short}
+use Rattle.index_image.proofs.ItemLaws.{first_items}
 use Rattle.index_file.proofs.FamilyLaws.{length-slices_of}
 use Rattle.index_file.proofs.LayoutLaws.{length-layout_bytes}
 use Rattle.index_image.proofs.PieceWriterLaws.{PutsPieces-then}
-use Rattle.index_image.proofs.SortLaws.{key_pairs-keys_of, length-keys_of, SlicesAscend-keys_of}
+use Rattle.index_image.proofs.SpreadLaws.{keys_before-le}
 use Rattle.index_file.proofs.WritingLaws.{length-joined, IsIndex-image_of}
 use Rattle.term_numbers.specs.Limits.{max_triples}
 use Rattle.index_file.specs.Conditions.{IsIndex, IsImageOf}
-use Rattle.index_file.specs.Families.{slices_of}
+use Rattle.index_file.specs.Families.{pairs_in, slices_of}
 use Rattle.index_file.specs.Image.{slices_for, family_pairs, all_pairs, pair_slice, layout_of, image_of}
 use Rattle.index_file.specs.Layout.{Layout, name, head_numbers, file_size, layout_bytes}
 use Rattle.index_file.specs.Version.{version_of, numbering_bytes, NumbersGraph}
@@ -31,25 +33,23 @@ use Rattle.index_file.specs.declared.family.Family.TheVariants.{So, Os, Ps, Po}
 use Rattle.index_image.specs.declared.fault.ImageFault.{ImageFault}
 use Rattle.index_image.specs.declared.fault.ImageFault.TheVariants.{TooLong, Memory}
 use Rattle.index_image.specs.steps.Measuring.{IsEnd, IsMost, IsMeasured, slice_part_of, slices_at, tables_of}
-use Rattle.index_image.specs.steps.Sorting.{key_of, key_pairs, keys_of, AreLeft}
+use Rattle.index_image.specs.steps.Spreading.{key_of, keys_of}
 use Rattle.index_image.specs.steps.Writing.{Writing, PutsPieces}
 
--- ---- the slices of a family are those of its keys
+-- ---- the slices of a family, one by one
 
-slices_from_keys : (form : RowForm) (f : Family) (ts : List Numbered) (n count : ℕ) → map (pair_slice form) (slices_of f n count ts) ≡ map (λ i. pair_slice form (key_pairs (keys_of f ts) i)) (range_with_len n count)
-slices_from_keys form f ts n zero = refl
-slices_from_keys form f ts n (suc count) =
-    let first = sym (key_pairs-keys_of f ts n) in
-    let rest = slices_from_keys form f ts (n + 1) count in
-    λ i. pair_slice form (first i) ∷ rest i
-
-pub slices_of_keys : (form : RowForm) (f : Family) (ts : List Numbered) (count : ℕ) → map (λ i. pair_slice form (key_pairs (keys_of f ts) i)) (range_with_len 0 count) ≡ map (pair_slice form) (slices_of f 0 count ts)
-slices_of_keys form f ts count = sym (slices_from_keys form f ts 0 count)
+pub family_slices_are : (form : RowForm) (f : Family) (ts : List Numbered) (count : ℕ) → map (λ n. pair_slice form (pairs_in f n ts)) (range_with_len 0 count) ≡ map (pair_slice form) (slices_of f 0 count ts)
+family_slices_are form f ts count = sym (map-map (pair_slice form) (λ n. pairs_in f n ts) (range_with_len 0 count))
 
 family_short : (form : RowForm) (f : Family) (ts : List Numbered) (count : ℕ) → length (joined (map (pair_slice form) (slices_of f 0 count ts))) ≤ 4 * count + 16 * length ts
 family_short form f ts count =
-    let all : AreLeft 0 (keys_of f ts) (keys_of f ts) = record { ascend = SlicesAscend-keys_of f ts; same = λ m later. refl; fewer = omega arith } in
-    omega (arith, ap (λ (l : List (List ℕ)). length (joined l)) (slices_of_keys form f ts count), slices_are_short form count 0 (keys_of f ts) (keys_of f ts) all, length-keys_of f ts)
+    omega (
+      arith,
+      ap (λ (l : List (List ℕ)). length (joined l)) (family_slices_are form f ts count),
+      slices_are_short form f ts count,
+      keys_before-le (keys_of f ts) count,
+      length-map ts (key_of f),
+    )
 
 pub length-family : (form : RowForm) (n : Numbering) (f : Family) → length (map (pair_slice form) (family_pairs n f)) ≡ slices_for f n.terms
 length-family form n f = length-map (family_pairs n f) (pair_slice form) ∙ length-slices_of f 0 (slices_for f n.terms) n.triples
@@ -149,18 +149,9 @@ IsMeasured-most form n Memory from from-is most = tt
 
 -- ---- texts, one by one
 
-take_next : {X : Type 0} (xs : List X) (i : ℕ) (x : X) → slice_get xs i ≡ Some x → take (suc i) xs ≡ take i xs ++ x ∷ []
-take_next [] i x is = absurd (cc)
-take_next (y ∷ xs) zero x is = let same : y ≡ x = cc in λ i. same i ∷ []
-take_next (y ∷ xs) (suc i) x is = ap (λ l. y ∷ l) (take_next xs i x is)
-
--- one text more
-pub first_texts : {X : Type 0} (xs : List X) (i : ℕ) (x : X) → slice_get xs i ≡ Some x → take (i + 1) xs ≡ take i xs ++ x ∷ []
-first_texts xs i x is = ap (λ n. take n xs) (add-one i) ∙ take_next xs i x is
-
 pub length_with_text : (ts : List (List ℕ)) (i : ℕ) (t : List ℕ) → slice_get ts i ≡ Some t → length (joined (take (i + 1) ts)) ≡ length (joined (take i ts)) + length t
 length_with_text ts i t is =
-    ap (λ (l : List (List ℕ)). length (joined l)) (first_texts ts i t is) ∙ length-joined (take i ts) (t ∷ [])
+    ap (λ (l : List (List ℕ)). length (joined l)) (first_items ts i t is) ∙ length-joined (take i ts) (t ∷ [])
     ∙ ap (λ n. length (joined (take i ts)) + n) (ap length (append-nil t))
 
 -- the first texts and the next are no longer than all
@@ -171,12 +162,7 @@ texts_fit ts i t is =
     omega (arith, length_with_text ts i t is, all)
 
 pub texts_put : (a b c : Writing) (ts : List (List ℕ)) (i : ℕ) (t : List ℕ) → slice_get ts i ≡ Some t → PutsPieces a b (take i ts) → PutsPieces b c (t ∷ []) → PutsPieces a c (take (i + 1) ts)
-texts_put a b c ts i t is first then = subst (PutsPieces a c) (sym (first_texts ts i t is)) (PutsPieces-then a b c (take i ts) (t ∷ []) first then)
-
--- a key more
-pub keys_more : (f : Family) (ts : List Numbered) (i : ℕ) (t : Numbered) (keys new : List Numbered) → slice_get ts i ≡ Some t → keys ≡ map (key_of f) (take i ts) → new ≡ keys ++ key_of f t ∷ [] → new ≡ map (key_of f) (take (i + 1) ts)
-keys_more f ts i t keys new is are more =
-    more ∙ ap (λ l. l ++ key_of f t ∷ []) are ∙ sym (ap (map (key_of f)) (first_texts ts i t is) ∙ map-append (key_of f) (take i ts) (t ∷ []))
+texts_put a b c ts i t is first then = subst (PutsPieces a c) (sym (first_items ts i t is)) (PutsPieces-then a b c (take i ts) (t ∷ []) first then)
 
 -- ---- a slice of no pair
 
@@ -193,13 +179,6 @@ empty_slice form pairs (Err e) old new none is = tt
 pub on_ok : {A B P Q : Type 0} (r : Result A B) → (P → Q) → OnOk r P → OnOk r Q
 on_ok (Ok x) f p = f p
 on_ok (Err e) f p = tt
-
--- ---- the slices of sorted keys are those of the family
-
-pub family_slices_are : (form : RowForm) (f : Family) (n : Numbering) (keys : List Numbered) (count : ℕ) → keys ≡ keys_of f n.triples → count ≡ slices_for f n.terms
-    → map (λ i. pair_slice form (key_pairs keys i)) (range_with_len 0 count) ≡ map (pair_slice form) (family_pairs n f)
-family_slices_are form f n keys count keys-are count-is =
-    (λ j. map (λ i. pair_slice form (key_pairs (keys-are j) i)) (range_with_len 0 (count-is j))) ∙ slices_of_keys form f n.triples (slices_for f n.terms)
 
 -- ---- the parts in a row
 

@@ -1,4 +1,4 @@
 -- Carries proofs only: how the code goes about it.
 pub mod Measuring
-pub mod Sorting
+pub mod Spreading
 pub mod Writing

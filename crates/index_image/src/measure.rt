@@ -1,18 +1,17 @@
 //! How long an image is, before it is made.
 
 ghost use Rattle.std.specs.Prelude.{◌≡◌, ◌+◌, ◌*◌, ◌^◌, ◌<◌, ◌≤◌, length, map};
-ghost use Rattle.std.specs.List.{range_with_len};
 ghost use Rattle.byte_tables.specs.Pieces.{joined};
 ghost use Rattle.term_numbers.specs.Numbering.{term_table};
 ghost use Rattle.term_numbers.specs.Limits.{max_triples};
 ghost use Rattle.index_file.specs.Image.{slices_for, family_pairs, all_pairs, pair_slice};
 ghost use Rattle.index_image.specs.steps.Measuring.{IsEnd, IsMeasured, IsMost, slice_part_of};
-ghost use Rattle.index_image.specs.steps.Sorting.{key_pairs, AreKeys};
 
-use crate::family_slices::{Room, Scratch, fill_pairs, split_slice};
-use crate::family_sort::family_keys;
+use crate::family_slices::Room;
 use crate::fault::ImageFault;
+use crate::order::{order_part, part};
 use crate::piece_writer::append_pairs;
+use crate::spread::spread;
 use index_file::Family;
 use run_rows::RowForm;
 use term_numbers::Numbers;
@@ -85,36 +84,6 @@ fn add_texts(numbers: &Numbers, from: u32) -> Result<u32, ImageFault>
     Ok(end)
 }
 
-/// A length with the bytes of the slices of sorted keys.
-fn add_slices(
-    form: RowForm,
-    slices: usize,
-    keys: &[(u32, u32, u32)],
-    scratch: &mut Scratch,
-    from: u32,
-) -> Result<u32, ImageFault>
-    requires keys { AreKeys keys.now }
-    requires few { length keys.now ≤ max_triples }
-    ensures { IsEnd (from + length (joined (map (λ i. pair_slice form (key_pairs keys.now i)) (range_with_len 0 slices)))) result }
-{
-    let mut rest = keys;
-    let mut end = from;
-    for n in 0..slices {
-        let (front, after) = split_slice(n, rest);
-        fill_pairs(front, &mut scratch.pairs)?;
-        scratch.slice.clear();
-        append_pairs(
-            form,
-            &scratch.pairs,
-            &mut scratch.columns,
-            &mut scratch.slice,
-        )?;
-        end = add(end, scratch.slice.len())?;
-        rest = after;
-    }
-    Ok(end)
-}
-
 /// A length with the bytes of the slices of a family.
 fn add_family(
     form: RowForm,
@@ -126,9 +95,23 @@ fn add_family(
     requires { length numbers.now.triples ≤ max_triples }
     ensures { IsEnd (from + length (joined (map (pair_slice form) (family_pairs numbers.now family)))) result }
 {
-    family_keys(family, numbers, &mut room.keys)?;
-    let slices = slices_in(family, numbers);
-    add_slices(form, slices, &room.keys, &mut room.scratch, from)
+    spread(family, numbers, &mut room.pairs, &mut room.ends)?;
+    let mut start = 0;
+    let mut size = from;
+    for n in 0..room.ends.len() {
+        let end = room.ends[n] as usize;
+        order_part(&mut room.pairs, start, end)?;
+        room.slice.clear();
+        append_pairs(
+            form,
+            part(&room.pairs, start, end),
+            &mut room.columns,
+            &mut room.slice,
+        )?;
+        size = add(size, room.slice.len())?;
+        start = end;
+    }
+    Ok(size)
 }
 
 /// A length with the bytes of all slices.

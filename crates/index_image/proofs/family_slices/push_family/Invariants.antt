@@ -1,0 +1,15 @@
+use Rattle.std.proofs.Common.{◌≡◌, length, map}
+use Rattle.std.specs.List.{range_with_len}
+use Rattle.index_file.specs.Families.{pairs_in}
+use Rattle.index_file.specs.Image.{pair_slice}
+use Rattle.index_image.specs.steps.Spreading.{keys_of, keys_before, AreLeft}
+use Rattle.index_image.specs.steps.Writing.{PutsPieces}
+use Rattle.index_image.proofs.family_slices.push_family.Given as goal
+
+abbrev pub invariant-loop-n : goal.invariant-loop-n
+invariant-loop-n l = record {
+  start : l.start ≡ keys_before (keys_of l.fn.family l.numbers.triples) l.n;
+  many : length l.room.ends.items ≡ l.n-end;
+  left : AreLeft l.n (keys_of l.fn.family l.numbers.triples) l.room.ends.items l.room.pairs.items;
+  puts : PutsPieces l.initial.into l.into (map (λ n. pair_slice l.form (pairs_in l.fn.family n l.numbers.triples)) (range_with_len 0 l.n));
+}
