@@ -21,8 +21,9 @@ use std::alloc::{AllocError, Global};
 use well_designed::refusal_of;
 
 /// The answers of a query over the graph of an index: the rows of its pattern (SPARQL 1.1 Query, section 18.5), cut to
-/// its columns and in order (section 18.2.5). They borrow their terms from the bytes of the index. The query keeps the
-/// limits. A query whose pattern is refused is not answered, and no memory is taken then.
+/// its columns and in order (section 18.2.5). They borrow their terms from the bytes of the index, which is always that
+/// of one graph ([`Index::counts`]). The query keeps the limits. A query whose pattern is refused is not answered, and no
+/// memory is taken then.
 pub fn answer<'a>(
     alloc: Global,
     index: &Index<'a>,
