@@ -59,8 +59,20 @@ fn an_index_may_take_the_place_of_its_data(rt: HostRuntime) -> Result<(), Fail> 
 fn an_index_of_no_triples_has_52_bytes(rt: HostRuntime) -> Result<(), Fail> {
     let alloc = rt.alloc();
     let mut world = world_of(alloc, "", QUERY)?;
-    does(&rt, alloc, &["load", "d", "i"], "stored triples 0 bytes 52\n", &mut world)?;
-    does(&rt, alloc, &["query", "i", "q", "tsv"], "?x\t?y\t?z\n", &mut world)?;
+    does(
+        &rt,
+        alloc,
+        &["load", "d", "i"],
+        "stored triples 0 bytes 52\n",
+        &mut world,
+    )?;
+    does(
+        &rt,
+        alloc,
+        &["query", "i", "q", "tsv"],
+        "?x\t?y\t?z\n",
+        &mut world,
+    )?;
     Ok(())
 }
 
@@ -76,7 +88,10 @@ const DAMAGES: [(&[(usize, u8)], &str); 6] = [
 
 /// A file that is no index is refused, for this part, by `check` and by `query`.
 fn refuses(rt: &impl Abort, alloc: Global, index: &[u8], part: &str) -> Result<(), Fail> {
-    for words in [["check", "i"].as_slice(), ["query", "i", "q", "tsv"].as_slice()] {
+    for words in [
+        ["check", "i"].as_slice(),
+        ["query", "i", "q", "tsv"].as_slice(),
+    ] {
         let mut world = world_of(alloc, DATA, QUERY)?;
         world.put_file("i", index)?;
         let status = ask(alloc, words, &mut world)?;

@@ -20,4 +20,4 @@ mod refusals;
 #[cfg(test)]
 mod words;
 
-pub use asking::{ANSWER, DATA, QUERY, ask, world_of};
+pub use asking::{ANSWER, DATA, QUERY, ask, status_of, world_of};

@@ -1,7 +1,7 @@
 use Rattle.std.proofs.Common.{ℕ, List, map, ap, subst, ◌∙◌}
 use Rattle.std.specs.String.{string_bytes}
 use Rattle.command_tests.specs.Asked.{Ran}
-use Rattle.command_tests.proofs.asking.ask.Goals as goal
+use Rattle.command_tests.proofs.asking.status_of.Goals as goal
 
 pub returns-clause-ran : goal.returns-clause-ran
 returns-clause-ran c =
