@@ -3,6 +3,7 @@ pub mod Distinct
 pub mod EmptyPatterns
 pub mod Evaluation
 pub mod Examples
+pub mod FlatCells
 pub mod Growth
 pub mod NodeNumbers
 pub mod Nodes
