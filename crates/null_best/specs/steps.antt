@@ -3,3 +3,4 @@ pub mod Cuts
 pub mod Groups
 pub mod Keys
 pub mod Marks
+pub mod Searches

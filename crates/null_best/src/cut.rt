@@ -1,5 +1,5 @@
 //! The one key that is made: a row cut to the variables of a set. It is written anew for each search.
-ghost use Rattle.std.specs.Prelude.{◌≡◌, [], OnOk};
+ghost use Rattle.std.specs.Prelude.{◌≡◌, ◌==◌, ◌%◌, if◌then◌else◌, [], OnOk};
 ghost use Rattle.null_best.specs.steps.Cuts.{cut_to};
 
 use smallvec::SmallVec;
@@ -46,13 +46,21 @@ impl Cut {
     }
 }
 
+/// A cell, if the first bit of a set is 1, and else unbound.
+fn first_cell(set: u64, cell: u32) -> u32
+    ensures { result ≡ (if set % 2 == 1 then cell else 0) }
+{
+    if set % 2 == 1 { cell } else { 0 }
+}
+
+/// Puts the cells of a row that is cut to a set into a buffer.
 fn push_cut(into: &mut SmallVec<u32, 16>, cells: &[u32], vars: u64) -> Result<(), AllocError>
     requires { into.old.items ≡ [] }
     ensures { OnOk result (into.new.items ≡ cut_to vars cells.now) }
 {
     let mut left = vars;
     for cell in cells {
-        into.push(if left % 2 == 1 { *cell } else { 0 })?;
+        into.push(first_cell(left, *cell))?;
         left /= 2;
     }
     Ok(())

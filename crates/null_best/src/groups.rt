@@ -1,6 +1,7 @@
 //! The groups of rows that bind the same variables.
-ghost use Rattle.std.specs.Prelude.{◌≡◌, ◌<◌, ◌≤◌, IfOk, length, slice_index_or, []};
-ghost use Rattle.null_best.specs.steps.Groups.{AreGroups, IsGroupEnd};
+ghost use Rattle.std.specs.Prelude.{◌<◌, IfOk, length};
+ghost use Rattle.null_best.specs.steps.Keys.{bound_set};
+ghost use Rattle.null_best.specs.steps.Groups.{AreGroups, BindSet, row_at};
 
 use crate::row_key::RowKey;
 use std::alloc::{AllocError, Global};
@@ -34,7 +35,8 @@ pub(crate) fn groups_of(alloc: Global, keys: &[RowKey<'_>]) -> Result<Vec<Group>
 /// Where the group ends that begins at a place.
 fn group_end(keys: &[RowKey<'_>], start: usize) -> usize
     requires { start < length keys.now }
-    ensures { IsGroupEnd keys.now start result }
+    ensures more { start < result }
+    ensures same { BindSet keys.now (bound_set (row_at keys.now start)) start result }
 {
     let vars = keys[start].vars();
     let mut end = start + 1;

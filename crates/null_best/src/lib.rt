@@ -8,6 +8,7 @@ mod groups;
 mod laws;
 mod marks;
 mod row_key;
+mod search;
 #[cfg(test)]
 mod tests;
 

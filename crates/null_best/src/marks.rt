@@ -1,35 +1,52 @@
 //! Which rows others extend.
-ghost use Rattle.std.specs.Prelude.{◌≡◌, OnOk, IsTrue, ◌↔◌};
+ghost use Rattle.std.specs.Prelude.{◌≡◌, ◌≢◌, ◌×◌, ◌≤◌, ◌↔◌, IsTrue, OnOk, length};
 ghost use Rattle.std.specs.Int.Bits.{bit_and};
+ghost use Rattle.std.specs.List.Sorted.{IsStrictlySortedBy};
+ghost use Rattle.null_best.specs.steps.Groups.{AreGroups, IsGroup};
+ghost use Rattle.null_best.specs.steps.Keys.{key_cmp};
+ghost use Rattle.null_best.specs.steps.Marks.{AddsMarks, IsImproved, IsImprovedAcross, IsImprovedBy, HaveWidth};
+ghost use Rattle.null_best.specs.steps.Searches.{Matches};
 
 use crate::cut::Cut;
 use crate::groups::Group;
 use crate::row_key::RowKey;
+use crate::search::find_near;
 use std::alloc::{AllocError, Global};
 
-/// Marks the rows that another row extends.
+/// Marks the rows that another row extends with more variables.
 pub(crate) fn mark_extended(
     alloc: Global,
     keys: &[RowKey<'_>],
     groups: &[Group],
     marks: &mut [bool],
 ) -> Result<(), AllocError>
+    requires ascends { IsStrictlySortedBy key_cmp keys.now }
+    requires widths { HaveWidth keys.now }
+    requires groups { AreGroups keys.now groups.now }
+    requires len { length marks.old ≡ length keys.now }
+    ensures { OnOk result (AddsMarks (IsImproved keys.now) marks.old marks.new) }
 {
     let mut cut = Cut::new(alloc);
     for large in groups {
-        mark_parts(keys, groups, large, marks, &mut cut)?;
+        mark_by(keys, groups, large, marks, &mut cut)?;
     }
     Ok(())
 }
 
 /// Marks the rows that a row of a group extends.
-fn mark_parts(
+fn mark_by(
     keys: &[RowKey<'_>],
     groups: &[Group],
     large: &Group,
     marks: &mut [bool],
     cut: &mut Cut,
 ) -> Result<(), AllocError>
+    requires ascends { IsStrictlySortedBy key_cmp keys.now }
+    requires widths { HaveWidth keys.now }
+    requires groups { AreGroups keys.now groups.now }
+    requires large { IsGroup keys.now large.now }
+    requires len { length marks.old ≡ length keys.now }
+    ensures { OnOk result (AddsMarks (IsImprovedBy keys.now large.now) marks.old marks.new) }
 {
     for small in groups {
         if is_part(small.vars, large.vars) {
@@ -41,6 +58,7 @@ fn mark_parts(
 
 /// Whether a set is a part of another, and not the same.
 fn is_part(small: u64, large: u64) -> bool
+    ensures { IsTrue result ↔ ((bit_and small large ≡ small) × (small ≢ large)) }
 {
     small & large == small && small != large
 }
@@ -53,23 +71,42 @@ fn mark_group(
     marks: &mut [bool],
     cut: &mut Cut,
 ) -> Result<(), AllocError>
+    requires ascends { IsStrictlySortedBy key_cmp keys.now }
+    requires widths { HaveWidth keys.now }
+    requires large { IsGroup keys.now large.now }
+    requires small { IsGroup keys.now small.now }
+    requires other { small.now.vars ≢ large.now.vars }
+    requires len { length marks.old ≡ length keys.now }
+    ensures { OnOk result (AddsMarks (IsImprovedAcross keys.now large.now small.now) marks.old marks.new) }
 {
+    let mut near = small.start;
     for i in large.start..large.end {
         cut.cut(keys[i].cells(), small.vars)?;
-        mark_row(keys, small, cut.cells(), marks);
+        near = mark_row(keys, small, near, cut.cells(), marks);
     }
     Ok(())
 }
 
-/// Marks the row of a group that has these cells, if there is one.
-fn mark_row(keys: &[RowKey<'_>], small: &Group, cells: &[u32], marks: &mut [bool])
+/// Marks the row of a group that has these cells, if there is one. The answer is a place near which it stands.
+fn mark_row(
+    keys: &[RowKey<'_>],
+    small: &Group,
+    near: usize,
+    cells: &[u32],
+    marks: &mut [bool],
+) -> usize
+    requires ascends { IsStrictlySortedBy key_cmp keys.now }
+    requires small { IsGroup keys.now small.now }
+    requires near { small.now.start ≤ near }
+    requires len { length marks.old ≡ length keys.now }
+    ensures near { small.now.start ≤ result }
+    ensures marks { AddsMarks (Matches keys.now small.now cells.now) marks.old marks.new }
 {
-    if let Ok(place) = find(&keys[small.start..small.end], cells) {
-        marks[small.start + place] = true;
+    match find_near(keys, small, near, cells) {
+        Ok(place) => {
+            marks[place] = true;
+            place
+        }
+        Err(place) => place,
     }
-}
-
-fn find(keys: &[RowKey<'_>], cells: &[u32]) -> Result<usize, usize>
-{
-    keys.binary_search_by(|key| key.cells().cmp(cells))
 }

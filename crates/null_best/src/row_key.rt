@@ -1,12 +1,12 @@
 //! Rows as what is sorted: the cells of each, lent, with the set of the variables that they bind.
 ghost use Rattle.std.specs.Prelude.{◌≡◌, ◌==◌, ◌≤◌, length};
 ghost use Rattle.std.proofs.Common.{rules};
-ghost use Rattle.std.specs.Cmp.{partial_order_from_own_ties};
+ghost use Rattle.std.specs.Cmp.{partial_order_from_own_ties, partial_order_from_total};
 ghost use Rattle.std.specs.Cmp.Lexicographic.{pointwise};
 ghost use Rattle.std.specs.Cmp.Rules.{comparing};
 ghost use Rattle.std.specs.Ordering.{as_partial_cmp};
 ghost use Rattle.bm_term.specs.SetOf.{set_of};
-ghost use Rattle.null_best.specs.steps.Keys.{bound_set, key_cmp, keys_tie, key_cmp-total};
+ghost use Rattle.null_best.specs.steps.Keys.{bit_of, bound_set, key_cmp, keys_tie, key_cmp-total};
 
 use std::cmp::Ordering;
 use std::marker::Model;
@@ -74,7 +74,7 @@ impl<'r> Eq for RowKey<'r> {
 impl<'r> PartialOrd for RowKey<'r> {
     ghost partial_cmp = { as_partial_cmp key_cmp };
 
-    ghost laws = { partial_order_from_own_ties key_cmp-total keys_tie };
+    ghost laws = { partial_order_from_own_ties (partial_order_from_total key_cmp-total) keys_tie };
 
     fn partial_cmp(&self, other: &RowKey<'r>) -> Option<Ordering> {
         Some(self.cmp(other))
@@ -107,9 +107,16 @@ fn vars_of(cells: &[u32]) -> u64
     let mut k = cells.len();
     while k > 0 {
         k -= 1;
-        vars = vars * 2 + u64::from(cells[k] != 0);
+        vars = vars * 2 + bit_of(cells[k]);
     }
     vars
+}
+
+/// Whether a cell is bound, as a bit.
+fn bit_of(cell: u32) -> u64
+    ensures { result ≡ bit_of cell }
+{
+    if cell == 0 { 0 } else { 1 }
 }
 
 /// Puts rows in order, and keeps each different one once.
