@@ -1,3 +1,5 @@
+pub mod Bests
 pub mod Better
 pub mod Cuts
+pub mod Marking
 pub mod Orders

@@ -1,8 +1,11 @@
 //! The best of some rows.
-ghost use Rattle.std.specs.Prelude.{◌≡◌, ◌≤◌, All, IfOk, length, map};
+ghost use Rattle.std.specs.Prelude.{◌≡◌, ◌≤◌, All, IfOk, false, length, map, replicate};
+ghost use Rattle.std.specs.List.Sorted.{IsStrictlySortedBy};
 ghost use Rattle.alg_model.specs.Limits.{max_variables};
 ghost use Rattle.pattern_tree.specs.BestRows.{AreBest};
 ghost use Rattle.pattern_tree.specs.FlatTable.{row_of};
+ghost use Rattle.null_best.specs.steps.Keys.{key_cmp};
+ghost use Rattle.null_best.specs.steps.Marks.{unmarked};
 
 use crate::groups::groups_of;
 use crate::marks::mark_extended;
@@ -17,17 +20,25 @@ pub fn best_match(alloc: Global, rows: FlatRows) -> Result<FlatRows, AllocError>
     ensures vars { IfOk result (λ best. best.vars ≡ rows.vars) }
     ensures best { IfOk result (λ best. AreBest rows.rows best.rows) }
 {
-    let mut keys = keys_of(alloc, &rows)?;
+    best_of(alloc, &rows)
+}
+
+fn best_of(alloc: Global, rows: &FlatRows) -> Result<FlatRows, AllocError>
+    requires few { rows.now.vars ≤ max_variables }
+    ensures vars { IfOk result (λ best. best.vars ≡ rows.now.vars) }
+    ensures best { IfOk result (λ best. AreBest rows.now.rows best.rows) }
+{
+    let mut keys = keys_of(alloc, rows)?;
     arrange(&mut keys);
-    let groups = groups_of(alloc, &keys)?;
     let mut marks = vec![in alloc; false; keys.len()]?;
-    mark_extended(alloc, &keys, &groups, &mut marks)?;
-    unmarked(alloc, rows.vars(), &keys, &marks)
+    best_in_order(alloc, rows.vars(), &keys, &mut marks)
 }
 
 /// A key for each row.
 fn keys_of<'r>(alloc: Global, rows: &'r FlatRows) -> Result<Vec<RowKey<'r>>, AllocError>
     requires { rows.now.vars ≤ max_variables }
+    ensures rows { IfOk result (λ keys. map row_of keys.items ≡ rows.now.rows) }
+    ensures widths { IfOk result (λ keys. All (λ key. length key ≡ rows.now.vars) keys.items) }
 {
     let mut keys = Vec::with_capacity(alloc, rows.len())?;
     for i in 0..rows.len() {
@@ -36,13 +47,39 @@ fn keys_of<'r>(alloc: Global, rows: &'r FlatRows) -> Result<Vec<RowKey<'r>>, All
     Ok(keys)
 }
 
+/// The best of rows that are in order, each of them once.
+fn best_in_order(
+    alloc: Global,
+    vars: u8,
+    keys: &[RowKey<'_>],
+    marks: &mut [bool],
+) -> Result<FlatRows, AllocError>
+    requires ascends { IsStrictlySortedBy key_cmp keys.now }
+    requires widths { All (λ key. length key ≡ vars) keys.now }
+    requires none { marks.old ≡ replicate (length keys.now) false }
+    ensures vars { IfOk result (λ best. best.vars ≡ vars) }
+    ensures best { IfOk result (λ best. AreBest (map row_of keys.now) best.rows) }
+{
+    let groups = groups_of(alloc, keys)?;
+    mark_extended(alloc, keys, &groups, marks)?;
+    unmarked_rows(alloc, vars, keys, marks)
+}
+
 /// The rows that are not marked.
-fn unmarked(alloc: Global, vars: u8, keys: &[RowKey<'_>], marks: &[bool]) -> Result<FlatRows, AllocError>
-    requires { All (λ key. length key ≡ vars) keys.now }
+fn unmarked_rows(
+    alloc: Global,
+    vars: u8,
+    keys: &[RowKey<'_>],
+    marks: &[bool],
+) -> Result<FlatRows, AllocError>
+    requires widths { All (λ key. length key ≡ vars) keys.now }
+    requires len { length marks.now ≡ length keys.now }
+    ensures vars { IfOk result (λ rows. rows.vars ≡ vars) }
+    ensures rows { IfOk result (λ rows. rows.rows ≡ map row_of (unmarked keys.now marks.now)) }
 {
     let mut rows = FlatRows::new(alloc, vars);
-    for (key, marked) in keys.iter().zip(marks) {
-        if !*marked {
+    for (i, key) in keys.iter().enumerate() {
+        if !marks[i] {
             rows.push(key.cells())?;
         }
     }
