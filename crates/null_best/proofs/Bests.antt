@@ -107,12 +107,12 @@ module _ (keys : List (List ℕ)) (marks : List Bool) (ascends : IsStrictlySorte
   pub best-unmarked : AreBest (map row_of keys) (map row_of (unmarked keys marks))
   best-unmarked = record {
     exactly = λ row. (forth row, back row);
-    once = AllPairs-rows (unmarked keys marks) (AllPairs-unmarked (λ x y. x ≢ y) keys marks (AllPairs-ascending key_cmp key_cmp-total key_cmp-exact keys ascends));
+    once = AllPairs-rows (unmarked keys marks) (AllPairs-unmarked (λ x y. x ≢ y) keys marks (AllPairs-ascending key_cmp key_cmp-total keys ascends));
   }
 
 -- lists with the same rows have the same best rows
 pub best-same : {V : Type 0} (xs ys best : List (Row V)) → ((row : Row V) → Contains xs row ↔ Contains ys row) → AreBest xs best → AreBest ys best
-best-same xs ys best same are = record {
+best-same {V} xs ys best same are = record {
   exactly = λ row. (
     λ at. let is = (are.exactly row).0 at in ((same row).0 is.0, λ extended. is.1 (moved row (λ r. (same r).1) extended)),
     λ at. (are.exactly row).1 ((same row).1 at.0, λ extended. at.1 (moved row (λ r. (same r).0) extended)),

@@ -1,6 +1,10 @@
 -- Rows by their cells: which variables they bind, and what they are cut to.
-use Rattle.std.proofs.Common.{◌≡◌, ◌≢◌, ◌⊎◌, inl, inr, ℕ, zero, suc, add-one, ◌+◌, ◌*◌, ◌^◌, ◌/◌, ◌%◌, ◌<◌, ◌≤◌, ◌==◌, min, if◌then◌else◌, List, [], ◌∷◌, length, get_or, Option, Some, None, IsSome, refl, arith, sym, ◌∙◌, ap, subst, true, false}
+use Rattle.std.proofs.Common.{◌≡◌, ◌≢◌, ◌⊎◌, inl, inr, ℕ, zero, suc, add-one, ◌+◌, ◌-◌, ◌*◌, ◌^◌, ◌/◌, ◌%◌, ◌<◌, ◌≤◌, ◌==◌, min, if◌then◌else◌, List, [], ◌∷◌, length, drop, get_or, Option, Some, None, IsSome, refl, arith, sym, ◌∙◌, ap, subst, true, false}
 use Rattle.std.specs.Int.{bit_at}
+use Rattle.std.proofs.lemmas.List.{drop_all, length-drop}
+use Rattle.std.proofs.lemmas.Nat.{pow_pos}
+use Rattle.std.proofs.Math.Nat.{pow-le-pow_right, pow-succ'}
+use Rattle.std.proofs.Math.Seq.{drop-cons}
 use Rattle.std.proofs.lemmas.Nat.Bits.{bit_at_lowest, bit_at-suc, bit_at-zero, bit_at_and, same_from_bits}
 use Rattle.std.specs.Int.Bits.{bit_and}
 use Rattle.alg_model.specs.Row.{binding, Extends, BindsMore}
@@ -55,6 +59,35 @@ bound_set-bits (suc v ∷ xs) zero = bit_at_lowest (bound_set (suc v ∷ xs)) �
 bound_set-bits (zero ∷ xs) (suc k) = bit_at-suc (bound_set (zero ∷ xs)) k ∙ ap (λ n. bit_at n k) (even_half (bound_set xs)) ∙ bound_set-bits xs k
 bound_set-bits (suc v ∷ xs) (suc k) = bit_at-suc (bound_set (suc v ∷ xs)) k ∙ ap (λ n. bit_at n k) (odd_half (bound_set xs)) ∙ bound_set-bits xs k
 
+-- it is read from the last cell on
+pub bound_set-end : (xs : List ℕ) → 0 ≡ bound_set (drop (length xs) xs)
+unfolding bound_set
+bound_set-end xs = ap bound_set (sym (drop_all (length xs) xs (omega arith)))
+
+pub bound_set-step : (xs : List ℕ) (k : ℕ) → 0 < k → k ≤ length xs → bound_set (drop k xs) * 2 + bit_of (get_or xs (k - 1) 0) ≡ bound_set (drop (k - 1) xs)
+unfolding bound_set
+bound_set-step xs k some within =
+    let next : suc (k - 1) ≡ k = omega arith in
+    let cells : drop (k - 1) xs ≡ get_or xs (k - 1) 0 ∷ drop k xs = drop-cons xs (k - 1) 0 (omega arith) ∙ ap (λ j. get_or xs (k - 1) 0 ∷ drop j xs) next in
+    let whole : bound_set (drop (k - 1) xs) ≡ bit_of (get_or xs (k - 1) 0) + 2 * bound_set (drop k xs) = ap bound_set cells in
+    omega arith
+
+-- and it fits a word
+bit_small : (cell : ℕ) → bit_of cell ≤ 1
+bit_small zero = omega arith
+bit_small (suc v) = omega arith
+
+bound_set-below : (xs : List ℕ) → bound_set xs < 2 ^ length xs
+unfolding bound_set
+bound_set-below [] = pow_pos 0
+bound_set-below (x ∷ xs) = omega (arith, bit_small x, bound_set-below xs, pow-succ' 2 (length xs))
+
+pub bound_set-fits : (xs : List ℕ) (k : ℕ) → length xs ≤ 64 → bound_set (drop k xs) < 2 ^ 64
+bound_set-fits xs k few =
+    let short : length (drop k xs) ≤ 64 = omega (arith, length-drop k xs) in
+    let more : 2 ^ length (drop k xs) ≤ 2 ^ 64 = pow-le-pow_right (omega arith) short in
+    omega (arith, bound_set-below (drop k xs))
+
 -- a row that extends another is cut to it
 pub cut-extended : (a b : List ℕ) → length a ≡ length b → Agrees a b → cut_to (bound_set b) a ≡ b
 unfolding bound_set
@@ -96,7 +129,7 @@ same_cons x y xs ys h t = cc
 pub cut-leaves : (set : ℕ) (xs : List ℕ) → cut_to set xs ≢ xs → LeavesOut xs (cut_to set xs)
 cut-leaves set [] other = absurd (other refl)
 cut-leaves set (zero ∷ xs) other =
-    let head : (if set % 2 == 1 then 0 else 0) ≡ 0 = elim (cut_cell (set % 2) 0) [ inl is ↦ is | inr is ↦ is ] in
+    let head : (if set % 2 == 1 then 0 else 0) ≡ 0 = elim (cut_cell (set % 2) 0) as (λ _. (if set % 2 == 1 then 0 else 0) ≡ 0) [ inl is ↦ is | inr is ↦ is ] in
     out-later 0 (if set % 2 == 1 then 0 else 0) xs (cut_to (set / 2) xs) (cut-leaves (set / 2) xs (λ same. other (same_cons 0 (if set % 2 == 1 then 0 else 0) xs (cut_to (set / 2) xs) head same)))
 cut-leaves set (suc v ∷ xs) other = elim (cut_cell (set % 2) (suc v)) [
   | inl is ↦ out-later (suc v) (if set % 2 == 1 then suc v else 0) xs (cut_to (set / 2) xs)

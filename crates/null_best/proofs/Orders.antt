@@ -1,7 +1,8 @@
 -- The order of rows: only equal rows tie, and in a group they ascend by their cells. What a search in a group learns
 -- from a row.
-use Rattle.std.proofs.Common.{◌≡◌, ◌⊎◌, inl, inr, ℕ, ◌<◌, ◌≤◌, true, false, List, [], length, refl, arith, sym, ◌∙◌, ap, subst, slice_index_or}
+use Rattle.std.proofs.Common.{◌≡◌, ◌⊎◌, inl, inr, ℕ, ◌+◌, ◌<◌, ◌≤◌, Bool, true, false, List, [], length, get_or, refl, arith, sym, ◌∙◌, ap, subst, slice_index_or}
 use Rattle.std.proofs.lemmas.Bool.{cases_lt, cases_order}
+use Rattle.std.proofs.lemmas.List.{get_or_default}
 use Rattle.std.proofs.lemmas.Map.Keys.{Less-from_sorted}
 use Rattle.std.proofs.lemmas.Map.Lookups.{CmpEqualImpliesEq, exact_bytes}
 use Rattle.std.specs.declared.cmp.Ordering.{Ordering}
@@ -74,3 +75,29 @@ module _ (keys : List (List ℕ)) (group : Group) (ascends : IsStrictlySortedBy 
       | inl same ↦ absurd (cc (same_place k match same))
       | inr others ↦ elim others [ inl lt ↦ lt | inr lt ↦ absurd (cc (later k match lt)) ]
     ]
+
+-- no two places of a group have the same cells
+pub match-place : (keys : List (List ℕ)) (group : Group) → IsStrictlySortedBy key_cmp keys → IsGroup keys group → (cells : List ℕ) (j k : ℕ) → Matches keys group cells j → Matches keys group cells k → k ≡ j
+match-place keys group ascends is cells j k first second = elim (cases_order k j) [
+  | inl same ↦ same
+  | inr others ↦ elim others [
+    | inl lt ↦ absurd (cc (less_cells keys group ascends is k j second.place first.place lt, cmp_itself (row_at keys k) (row_at keys j) (second.cells_are ∙ sym first.cells_are)))
+    | inr lt ↦ absurd (cc (less_cells keys group ascends is j k first.place second.place lt, cmp_itself (row_at keys j) (row_at keys k) (first.cells_are ∙ sym second.cells_are)))
+  ]
+]
+
+-- what a comparison with a row says of the row at its place
+pub read_row : (keys : List (List ℕ)) (k : ℕ) (x : List ℕ) → k < length keys → x ≡ get_or keys k x → row_at keys k ≡ x
+read_row keys k x within is = get_or_default keys k [] x within ∙ sym is
+
+pub tested-row : (keys : List (List ℕ)) (k : ℕ) (x cells : List ℕ) (test answer : Bool) → k < length keys → x ≡ get_or keys k x →
+    test ≡ is_lt (slice_cmp nat_cmp x cells) → test ≡ answer → is_lt (slice_cmp nat_cmp (row_at keys k) cells) ≡ answer
+tested-row keys k x cells test answer within is tests tells = ap (λ row. is_lt (slice_cmp nat_cmp row cells)) (read_row keys k x within is) ∙ sym tests ∙ tells
+
+pub compared-row : (keys : List (List ℕ)) (k : ℕ) (x y cells : List ℕ) (order answer : Ordering) → k < length keys → x ≡ get_or keys k x → y ≡ x →
+    order ≡ slice_cmp nat_cmp y cells → order ≡ answer → slice_cmp nat_cmp (row_at keys k) cells ≡ answer
+compared-row keys k x y cells order answer within is same compares tells =
+    ap (λ row. slice_cmp nat_cmp row cells) (read_row keys k x within is ∙ sym same) ∙ sym compares ∙ tells
+
+pub same-row : (keys : List (List ℕ)) (k : ℕ) (cells : List ℕ) → slice_cmp nat_cmp (row_at keys k) cells ≡ Equal → row_at keys k ≡ cells
+same-row keys k cells = exact_bytes (row_at keys k) cells

@@ -16,6 +16,14 @@ pub record AddsMarks (P : ℕ → Type 0) (old new : List Bool) : Type 0 where
 abbrev pub HaveWidth : List (List ℕ) → Type 0
 HaveWidth keys = (i j : ℕ) → i < length keys → j < length keys → length (row_at keys i) ≡ length (row_at keys j)
 
+-- the front of a group, up to a place
+abbrev pub front_of : Group → ℕ → Group
+front_of group end = record group { end = end }
+
+-- a group of a list, and an empty one past its end
+abbrev pub group_at : List Group → ℕ → Group
+group_at groups k = slice_index_or groups k (record { vars = 0; start = 0; end = 0 })
+
 -- a row of one group extends the row at a place of another group, with more variables
 pub record IsImprovedAcross (keys : List (List ℕ)) (large small : Group) (k : ℕ) : Type 0 where
   pub by : ℕ
@@ -36,6 +44,18 @@ pub record IsImproved (keys : List (List ℕ)) (k : ℕ) : Type 0 where
   pub listed : by < length keys
   pub exists : k < length keys
   pub improves : Improves (row_at keys by) (row_at keys k)
+
+-- a row of a group extends the row at a place of one of the first groups
+pub record IsImprovedBelow (keys : List (List ℕ)) (large : Group) (groups : List Group) (n k : ℕ) : Type 0 where
+  pub at : ℕ
+  pub below : at < n
+  pub improved : IsImprovedAcross keys large (group_at groups at) k
+
+-- a row of one of the first groups extends the row at a place
+pub record IsImprovedFrom (keys : List (List ℕ)) (groups : List Group) (n k : ℕ) : Type 0 where
+  pub at : ℕ
+  pub below : at < n
+  pub improved : IsImprovedBy keys (group_at groups at) k
 
 -- the items that have no mark
 abbrev pub unmarked : {X : Type 0} → List X → List Bool → List X
