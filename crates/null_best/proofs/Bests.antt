@@ -1,6 +1,8 @@
 -- The rows without a mark are the best, where the marks are at the rows that another extends with more variables.
-use Rattle.std.proofs.Common.{◌≡◌, ◌≢◌, ◌↔◌, ◌⊎◌, inl, inr, ℕ, zero, suc, ◌+◌, ◌<◌, ◌≤◌, Bool, true, false, List, [], ◌∷◌, length, get_or, map, replicate, Option, Some, None, Contains, AllPairs, refl, arith, sym, ◌∙◌, ap, subst, slice_index_or}
-use Rattle.std.proofs.lemmas.List.{get_or-map, length-map, get_or_default}
+use Rattle.std.proofs.Common.{◌≡◌, ◌≢◌, ◌↔◌, ◌⊎◌, inl, inr, ℕ, zero, suc, ◌+◌, ◌<◌, ◌≤◌, Bool, true, false, List, [], ◌∷◌, ◌++◌, length, get_or, take, slice_get, map, replicate, Option, Some, None, All, Contains, AllPairs, refl, arith, sym, ◌∙◌, ap, subst, slice_index_or}
+use Rattle.std.proofs.lemmas.List.{get_or-map, length-map, get_or_default, map-append, take_more}
+use Rattle.std.proofs.lemmas.List.Elements.{All-contains, Contains-get_or}
+use Rattle.std.proofs.lemmas.Option.{slice_get_within, get_or_from_slice_get}
 use Rattle.std.specs.List.Sorted.{IsStrictlySortedBy}
 use Rattle.bm_term.specs.SetOf.{IsSetOf, set_of}
 use Rattle.bm_term.proofs.Sets.{AllPairs-ascending, IsSetOf-set_of}
@@ -134,3 +136,20 @@ best-sorted keys best = best-same (map row_of (set_of key_cmp keys)) (map row_of
   here xs k lt = (k, lt, get_or_default xs k (row_at xs k) [] lt)
   moved : (xs ys : List (List ℕ)) (row : Row ℕ) (k : ℕ) → IsRowAt xs row k → Contains ys (row_at xs k) → Contains (map row_of ys) row
   moved xs ys row k at there = Contains-place ys row there.0 (record { within = there.1; is = ap row_of (get_or_default ys there.0 [] (row_at xs k) there.1 ∙ there.2) ∙ at.is })
+
+-- keys that are read one after another
+pub keys-step : (rows : List (Row ℕ)) (keys : List (List ℕ)) (i : ℕ) (cells key : List ℕ) → map row_of keys ≡ take i rows → slice_get rows i ≡ Some (row_of cells) → key ≡ cells →
+    map row_of (keys ++ key ∷ []) ≡ take (i + 1) rows
+keys-step rows keys i cells key before at same =
+    map-append row_of keys (key ∷ []) ∙ ap (λ front. front ++ row_of key ∷ []) before ∙ ap (λ c. take i rows ++ row_of c ∷ []) same
+    ∙ ap (λ row. take i rows ++ row ∷ []) (sym (get_or_from_slice_get rows i (row_of cells) (row_of cells) at))
+    ∙ sym (take_more rows i (row_of cells) (slice_get_within rows i (row_of cells) at))
+
+-- what holds of all rows holds of the sorted ones
+pub All-sorted : (P : List ℕ → Type 0) (keys : List (List ℕ)) → All P keys → All P (set_of key_cmp keys)
+All-sorted P keys all k d lt =
+    let set : IsSetOf key_cmp keys (set_of key_cmp keys) = (IsSetOf-set_of key_cmp key_cmp-total key_cmp-exact keys (set_of key_cmp keys)).1 refl in
+    All-contains P keys (get_or (set_of key_cmp keys) k d) all ((set.same (get_or (set_of key_cmp keys) k d)).0 (Contains-get_or (set_of key_cmp keys) k d lt))
+
+pub ascends-sorted : (keys : List (List ℕ)) → IsStrictlySortedBy key_cmp (set_of key_cmp keys)
+ascends-sorted keys = let set : IsSetOf key_cmp keys (set_of key_cmp keys) = (IsSetOf-set_of key_cmp key_cmp-total key_cmp-exact keys (set_of key_cmp keys)).1 refl in set.ascends

@@ -108,6 +108,9 @@ cut-extended (x ∷ a) (suc v ∷ b) same agrees =
 cut_cell : (c : ℕ) (x : ℕ) → ((if c == 1 then x else 0) ≡ x) ⊎ ((if c == 1 then x else 0) ≡ 0)
 cut_cell c x = elim (c == 1) as (λ b. ((if b then x else 0) ≡ x) ⊎ ((if b then x else 0) ≡ 0)) [ true ↦ inl refl | false ↦ inr refl ]
 
+cut_unbound : (c : ℕ) → ◌≡◌ {A = ℕ} (if c == 1 then 0 else 0) 0
+cut_unbound c = elim (c == 1) as (λ b. ◌≡◌ {A = ℕ} (if b then 0 else 0) 0) [ true ↦ refl | false ↦ refl ]
+
 pub cut-agrees : (set : ℕ) (xs : List ℕ) → Agrees xs (cut_to set xs)
 cut-agrees set [] k v h = absurd (cc)
 cut-agrees set (x ∷ xs) zero v h = elim (cut_cell (set % 2) x) [ inl is ↦ sym is ∙ h | inr none ↦ absurd (cc) ]
@@ -129,7 +132,7 @@ same_cons x y xs ys h t = cc
 pub cut-leaves : (set : ℕ) (xs : List ℕ) → cut_to set xs ≢ xs → LeavesOut xs (cut_to set xs)
 cut-leaves set [] other = absurd (other refl)
 cut-leaves set (zero ∷ xs) other =
-    let head : (if set % 2 == 1 then 0 else 0) ≡ 0 = elim (cut_cell (set % 2) 0) as (λ _. (if set % 2 == 1 then 0 else 0) ≡ 0) [ inl is ↦ is | inr is ↦ is ] in
+    let head = cut_unbound (set % 2) in
     out-later 0 (if set % 2 == 1 then 0 else 0) xs (cut_to (set / 2) xs) (cut-leaves (set / 2) xs (λ same. other (same_cons 0 (if set % 2 == 1 then 0 else 0) xs (cut_to (set / 2) xs) head same)))
 cut-leaves set (suc v ∷ xs) other = elim (cut_cell (set % 2) (suc v)) [
   | inl is ↦ out-later (suc v) (if set % 2 == 1 then suc v else 0) xs (cut_to (set / 2) xs)

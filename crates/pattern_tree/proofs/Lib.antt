@@ -9,5 +9,6 @@ pub mod NodeNumbers
 pub mod Nodes
 pub mod PatternTrees
 pub mod RootedSets
+pub mod RowExamples
 pub mod TreeSizes
 pub mod Unions

@@ -1,4 +1,4 @@
-use Rattle.std.proofs.Common.{◌∷◌, [], subst, ap, sym, ◌∙◌}
+use Rattle.std.proofs.Common.{◌≡◌, ◌∷◌, [], subst, ap, sym, ◌∙◌}
 use Rattle.null_best.specs.steps.Groups.{AreGroupsBelow, BindSet, row_at}
 use Rattle.null_best.specs.steps.Keys.{bound_set}
 use Rattle.null_best.proofs.GroupSteps.{groups-step}
