@@ -27,12 +27,12 @@ fn cell(sets: u32, bit: u32, value: u32) -> u32
 }
 
 // Rows of six cells. Three variables are bound in each row, and the others as the low bits of the row's place say.
-fn rows(alloc: Global, step: u32, sets: u32) -> Result<FlatRows, AllocError>
+fn rows(alloc: Global, step: u64, sets: u32) -> Result<FlatRows, AllocError>
     ensures { IfOk result (λ rows. rows.vars ≡ 6) }
 {
     let mut rows = FlatRows::new(alloc, 6);
     for i in 0..ROWS {
-        let place = (u64::from(i) * u64::from(step) % u64::from(ROWS)) as u32;
+        let place = (u64::from(i).wrapping_mul(step) % u64::from(ROWS)) as u32;
         let root = place / 8;
         let value = mixed(if root % 2 == 0 { root } else { place });
         rows.push(&[
@@ -47,7 +47,7 @@ fn rows(alloc: Global, step: u32, sets: u32) -> Result<FlatRows, AllocError>
     Ok(rows)
 }
 
-fn time(rt: &HostRuntime, name: &str, step: u32, sets: u32) -> io::Result<()> {
+fn time(rt: &HostRuntime, name: &str, step: u64, sets: u32) -> io::Result<()> {
     let rows = rows(rt.alloc(), step, sets)?;
     let start = Instant::now(rt)?;
     let best = best_match(rt.alloc(), rows)?;

@@ -56,19 +56,23 @@ fn rows_of(alloc: Global, table: &[[u32; 5]]) -> Result<FlatRows, AllocError>
     Ok(rows)
 }
 
-// Cells of which a third is unbound, as if at random.
+// Five cells as if at random, of which a third is unbound.
+fn random_cells(seed: u32) -> [u32; 5] {
+    let mut cells = [0; 5];
+    let mut n = seed.wrapping_mul(2_654_435_761);
+    for cell in &mut cells {
+        n = n.wrapping_mul(1_664_525).wrapping_add(1_013_904_223);
+        *cell = (n >> 16) % 3;
+    }
+    cells
+}
+
 fn random_rows(alloc: Global, seed: u32, count: u32) -> Result<FlatRows, AllocError>
     ensures { IfOk result (λ rows. rows.vars ≡ 5) }
 {
     let mut rows = FlatRows::new(alloc, 5);
-    let mut n = seed;
-    for _ in 0..count {
-        let mut cells = [0; 5];
-        for cell in &mut cells {
-            n = n.wrapping_mul(1_664_525).wrapping_add(1_013_904_223);
-            *cell = (n >> 16) % 3;
-        }
-        rows.push(&cells)?;
+    for i in 0..count {
+        rows.push(&random_cells(seed.wrapping_mul(1000).wrapping_add(i)))?;
     }
     Ok(rows)
 }
