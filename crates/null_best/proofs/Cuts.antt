@@ -88,6 +88,11 @@ bound_set-fits xs k few =
     let more : 2 ^ length (drop k xs) ≤ 2 ^ 64 = pow-le-pow_right (omega arith) short in
     omega (arith, bound_set-below (drop k xs))
 
+-- a cut has as many cells
+pub length-cut : (set : ℕ) (xs : List ℕ) → length (cut_to set xs) ≡ length xs
+length-cut set [] = refl
+length-cut set (x ∷ xs) = omega (arith, length-cut (set / 2) xs)
+
 -- a row that extends another is cut to it
 pub cut-extended : (a b : List ℕ) → length a ≡ length b → Agrees a b → cut_to (bound_set b) a ≡ b
 unfolding bound_set

@@ -11,7 +11,7 @@ use Rattle.null_best.specs.steps.Keys.{bound_set, key_cmp}
 use Rattle.null_best.specs.steps.Marks.{HaveWidth, front_of, group_at, IsImproved, IsImprovedAcross, IsImprovedBelow, IsImprovedBy, IsImprovedFrom}
 use Rattle.null_best.specs.steps.Searches.{Matches}
 use Rattle.null_best.proofs.Cuts.{improves-cut, cut-improved, part-improved, other-improved}
-use Rattle.null_best.proofs.Orders.{less_cells, match-place}
+use Rattle.null_best.proofs.Orders.{match-place}
 
 module _ (keys : List (List ℕ)) where
   -- a row of one group improves that of another exactly where that is the cut of the first
@@ -21,7 +21,7 @@ module _ (keys : List (List ℕ)) where
 
     improved-matches : (i k : ℕ) → IsIn large i → IsIn small k → Improves (row_at keys i) (row_at keys k) → Matches keys small (cut_to small.vars (row_at keys i)) k
     improved-matches i k from at improves =
-        let same : length (row_at keys i) ≡ length (row_at keys k) = widths i k (omega (arith, from.below, is_large.binds.within)) (place-small k at) in
+        let same : length (row_at keys i) ≡ length (row_at keys k) = widths.same i k (omega (arith, from.below, is_large.binds.within)) (place-small k at) in
         let set : bound_set (row_at keys k) ≡ small.vars = is_small.binds.same k at.from at.below in
         record {
           place = at;

@@ -55,6 +55,7 @@ fn best_in_order(
     marks: &mut [bool],
 ) -> Result<FlatRows, AllocError>
     requires ascends { IsStrictlySortedBy key_cmp keys.now }
+    requires few { vars ≤ max_variables }
     requires widths { All (λ key. length key ≡ vars) keys.now }
     requires none { marks.old ≡ replicate (length keys.now) false }
     ensures vars { IfOk result (λ best. best.vars ≡ vars) }

@@ -82,17 +82,18 @@ fn mark_group(
     let mut near = small.start;
     for i in large.start..large.end {
         cut.cut(keys[i].cells(), small.vars)?;
-        near = mark_row(keys, small, near, cut.cells(), marks);
+        let key = RowKey::new(cut.cells());
+        near = mark_row(keys, small, near, &key, marks);
     }
     Ok(())
 }
 
-/// Marks the row of a group that has these cells, if there is one. The answer is a place near which it stands.
+/// Marks a row in a group, if it is there. The answer is a place near which it stands.
 fn mark_row(
     keys: &[RowKey<'_>],
     small: &Group,
     near: usize,
-    cells: &[u32],
+    key: &RowKey<'_>,
     marks: &mut [bool],
 ) -> usize
     requires ascends { IsStrictlySortedBy key_cmp keys.now }
@@ -100,9 +101,9 @@ fn mark_row(
     requires near { small.now.start ≤ near }
     requires len { length marks.old ≡ length keys.now }
     ensures near { small.now.start ≤ result }
-    ensures marks { AddsMarks (Matches keys.now small.now cells.now) marks.old marks.new }
+    ensures marks { AddsMarks (Matches keys.now small.now key.now) marks.old marks.new }
 {
-    match find_near(keys, small, near, cells) {
+    match find_near(keys, small, near, key) {
         Ok(place) => {
             marks[place] = true;
             place

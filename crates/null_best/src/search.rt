@@ -1,8 +1,7 @@
 //! Where a row stands in a group. A search begins near the place of the last one, since rows come in order.
 ghost use Rattle.std.specs.Prelude.{◌≡◌, ◌<◌, ◌≤◌, false, true};
-ghost use Rattle.std.specs.Cmp.Lexicographic.{slice_cmp};
 ghost use Rattle.std.specs.List.Sorted.{IsStrictlySortedBy};
-ghost use Rattle.std.specs.Ordering.{nat_cmp, is_lt};
+ghost use Rattle.std.specs.Ordering.{is_lt};
 ghost use Rattle.null_best.specs.steps.Groups.{IsGroup, row_at};
 ghost use Rattle.null_best.specs.steps.Keys.{key_cmp};
 ghost use Rattle.null_best.specs.steps.Searches.{IsFound, IsWindow};
@@ -11,47 +10,47 @@ use crate::groups::Group;
 use crate::row_key::RowKey;
 use std::cmp::Ordering;
 
-/// The place of the row with some cells in a group, or else a place near which it would stand.
+/// The place of a row in a group, or else a place near which it would stand.
 pub(crate) fn find_near(
     keys: &[RowKey<'_>],
     group: &Group,
     near: usize,
-    cells: &[u32],
+    cut: &RowKey<'_>,
 ) -> Result<usize, usize>
     requires ascends { IsStrictlySortedBy key_cmp keys.now }
     requires group { IsGroup keys.now group.now }
     requires near { group.now.start ≤ near }
-    ensures { IsFound keys.now group.now cells.now result }
+    ensures { IsFound keys.now group.now cut.now result }
 {
-    let (low, high) = if near < group.end && precedes(&keys[near], cells) {
-        after(keys, group, near, cells)
+    let (low, high) = if near < group.end && precedes(&keys[near], cut) {
+        after(keys, group, near, cut)
     } else {
-        before(keys, group, near, cells)
+        before(keys, group, near, cut)
     };
-    find_between(keys, group, low, high, cells)
+    find_between(keys, group, low, high, cut)
 }
 
-/// Whether a row comes before some cells.
-fn precedes(key: &RowKey<'_>, cells: &[u32]) -> bool
-    ensures { result ≡ is_lt (slice_cmp nat_cmp key.now cells.now) }
+/// Whether a row comes before another.
+fn precedes(key: &RowKey<'_>, cut: &RowKey<'_>) -> bool
+    ensures { result ≡ is_lt (key_cmp key.now cut.now) }
 {
-    matches!(key.cells().cmp(cells), Ordering::Less)
+    matches!(key.compare(cut), Ordering::Less)
 }
 
 /// A window from a place on, in steps that double.
-fn after(keys: &[RowKey<'_>], group: &Group, near: usize, cells: &[u32]) -> (usize, usize)
+fn after(keys: &[RowKey<'_>], group: &Group, near: usize, cut: &RowKey<'_>) -> (usize, usize)
     requires ascends { IsStrictlySortedBy key_cmp keys.now }
     requires group { IsGroup keys.now group.now }
     requires from { group.now.start ≤ near }
     requires below { near < group.now.end }
-    requires before { is_lt (slice_cmp nat_cmp (row_at keys.now near) cells.now) ≡ true }
-    ensures { IsWindow keys.now group.now cells.now result.0 result.1 }
+    requires before { is_lt (key_cmp (row_at keys.now near) cut.now) ≡ true }
+    ensures { IsWindow keys.now group.now cut.now result.0 result.1 }
 {
     let mut low = near;
     let mut step = 1;
     while step < group.end - low {
         let probe = low + step;
-        if !precedes(&keys[probe], cells) {
+        if !precedes(&keys[probe], cut) {
             return (low, probe + 1);
         }
         low = probe;
@@ -61,18 +60,18 @@ fn after(keys: &[RowKey<'_>], group: &Group, near: usize, cells: &[u32]) -> (usi
 }
 
 /// A window up to a place, in steps that double.
-fn before(keys: &[RowKey<'_>], group: &Group, near: usize, cells: &[u32]) -> (usize, usize)
+fn before(keys: &[RowKey<'_>], group: &Group, near: usize, cut: &RowKey<'_>) -> (usize, usize)
     requires ascends { IsStrictlySortedBy key_cmp keys.now }
     requires group { IsGroup keys.now group.now }
     requires from { group.now.start ≤ near }
-    requires after { near < group.now.end → is_lt (slice_cmp nat_cmp (row_at keys.now near) cells.now) ≡ false }
-    ensures { IsWindow keys.now group.now cells.now result.0 result.1 }
+    requires after { near < group.now.end → is_lt (key_cmp (row_at keys.now near) cut.now) ≡ false }
+    ensures { IsWindow keys.now group.now cut.now result.0 result.1 }
 {
     let mut high = if near < group.end { near + 1 } else { group.end };
     let mut step = 1;
     while step < high - group.start {
         let probe = high - 1 - step;
-        if precedes(&keys[probe], cells) {
+        if precedes(&keys[probe], cut) {
             return (probe, high);
         }
         high = probe + 1;
@@ -81,22 +80,22 @@ fn before(keys: &[RowKey<'_>], group: &Group, near: usize, cells: &[u32]) -> (us
     (group.start, high)
 }
 
-/// The place of the row with some cells in a window, or else where it would stand.
+/// The place of a row in a window, or else where it would stand.
 fn find_between(
     keys: &[RowKey<'_>],
     group: &Group,
     mut low: usize,
     mut high: usize,
-    cells: &[u32],
+    cut: &RowKey<'_>,
 ) -> Result<usize, usize>
     requires ascends { IsStrictlySortedBy key_cmp keys.now }
     requires group { IsGroup keys.now group.now }
-    requires window { IsWindow keys.now group.now cells.now low high }
-    ensures { IsFound keys.now group.now cells.now result }
+    requires window { IsWindow keys.now group.now cut.now low high }
+    ensures { IsFound keys.now group.now cut.now result }
 {
     while low < high {
         let middle = low + (high - low) / 2;
-        match keys[middle].cells().cmp(cells) {
+        match keys[middle].compare(cut) {
             Ordering::Equal => return Ok(middle),
             Ordering::Less => low = middle + 1,
             Ordering::Greater => high = middle,

@@ -1,5 +1,5 @@
 -- Carries proofs only: the set of variables that a row binds, as a word, and the order of rows.
-use Rattle.std.specs.Prelude.{◌≡◌, ℕ, zero, suc, ◌+◌, ◌*◌, ◌==◌, List, [], ◌∷◌, refl}
+use Rattle.std.specs.Prelude.{◌≡◌, ℕ, zero, suc, ◌+◌, ◌*◌, ◌^◌, ◌<◌, ◌==◌, List, [], ◌∷◌, refl, slice_index}
 use Rattle.std.specs.declared.cmp.Ordering.{Ordering}
 use Rattle.std.specs.declared.cmp.Ordering.TheVariants.{Less, Equal, Greater}
 use Rattle.std.specs.Cmp.{IsTotalOrder, nat_cmp_total, on_total, then_total, tied_itself}
@@ -17,6 +17,20 @@ bit_of (suc value) = 1
 unfoldable pub bound_set : List ℕ → ℕ
 bound_set [] = 0
 bound_set (cell ∷ cells) = bit_of cell + 2 * bound_set cells
+
+-- the first two cells as a word
+unfoldable pub head_of : List ℕ → ℕ
+head_of cells = slice_index cells 0 * 2 ^ 32 + slice_index cells 1
+
+-- each cell fits in 32 bits
+abbrev pub AreWords : List ℕ → Type 0
+AreWords cells = (k : ℕ) → slice_index cells k < 2 ^ 32
+
+-- what stands beside the cells of a row
+pub record IsKey (vars head : ℕ) (cells : List ℕ) : Type 0 where
+  pub vars_are : vars ≡ bound_set cells
+  pub head_is : head ≡ head_of cells
+  pub words : AreWords cells
 
 -- rows with the lesser set come first, and of the same set those with the lesser cells
 abbrev pub key_cmp : List ℕ → List ℕ → Ordering

@@ -1,5 +1,5 @@
 -- Carries proofs only: marks of places, and which rows they stand at.
-use Rattle.std.specs.Prelude.{◌≡◌, ◌↔◌, ◌⊎◌, ◌<◌, ℕ, Bool, true, false, List, [], ◌∷◌, if◌then◌else◌, length, slice_index_or}
+use Rattle.std.specs.Prelude.{◌≡◌, ◌↔◌, ◌⊎◌, ◌<◌, ◌≤◌, ℕ, Bool, true, false, List, [], ◌∷◌, if◌then◌else◌, length, slice_index_or}
 use Rattle.null_best.specs.declared.groups.Group.{Group}
 use Rattle.null_best.specs.steps.Cuts.{Improves}
 use Rattle.null_best.specs.steps.Groups.{row_at, IsIn}
@@ -12,9 +12,10 @@ pub record AddsMarks (P : ℕ → Type 0) (old new : List Bool) : Type 0 where
   pub len : length new ≡ length old
   pub marked : (k : ℕ) → IsMarked new k ↔ (IsMarked old k ⊎ P k)
 
--- all rows have as many cells
-abbrev pub HaveWidth : List (List ℕ) → Type 0
-HaveWidth keys = (i j : ℕ) → i < length keys → j < length keys → length (row_at keys i) ≡ length (row_at keys j)
+-- all rows have as many cells, and no more than a word has bits
+pub record HaveWidth (keys : List (List ℕ)) : Type 0 where
+  pub same : (i j : ℕ) → i < length keys → j < length keys → length (row_at keys i) ≡ length (row_at keys j)
+  pub few : (i : ℕ) → i < length keys → length (row_at keys i) ≤ 64
 
 -- the front of a group, up to a place
 abbrev pub front_of : Group → ℕ → Group

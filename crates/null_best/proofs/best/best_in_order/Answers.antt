@@ -1,4 +1,4 @@
-use Rattle.std.proofs.Common.{◌≡◌, false, length, replicate, map, sym, ◌∙◌, subst}
+use Rattle.std.proofs.Common.{◌≡◌, [], arith, false, length, replicate, map, sym, ◌∙◌, subst}
 use Rattle.std.proofs.lemmas.List.{length-replicate}
 use Rattle.std.proofs.lemmas.Result.{IfOk-weaker}
 use Rattle.pattern_tree.specs.BestRows.{AreBest}
@@ -6,6 +6,12 @@ use Rattle.pattern_tree.specs.FlatTable.{row_of}
 use Rattle.null_best.specs.steps.Marks.{AddsMarks, IsImproved, unmarked}
 use Rattle.null_best.proofs.Bests.{best-unmarked}
 use Rattle.null_best.proofs.best.best_in_order.Goals as goal
+
+pub mark_extended-requires-clause-widths : goal.mark_extended-requires-clause-widths
+mark_extended-requires-clause-widths c = record {
+  same = λ i j at_i at_j. c.requires.widths i [] at_i ∙ sym (c.requires.widths j [] at_j);
+  few = λ i at. omega (arith, c.requires.widths i [] at, c.requires.few);
+}
 
 pub returns-clause-best : goal.returns-clause-best
 returns-clause-best c =
