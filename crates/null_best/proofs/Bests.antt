@@ -124,18 +124,30 @@ best-same {V} xs ys best same are = record {
   moved : {zs us : List (Row V)} (row : Row V) → ((r : Row V) → Contains zs r → Contains us r) → IsExtended zs row → IsExtended us row
   moved row into extended = record { other = extended.other; listed = into extended.other extended.listed; extends = extended.extends; more = extended.more }
 
--- the best of the sorted rows are the best of the rows
-pub best-sorted : (keys : List (List ℕ)) (best : List (Row ℕ)) → AreBest (map row_of (set_of key_cmp keys)) best → AreBest (map row_of keys) best
-best-sorted keys best = best-same (map row_of (set_of key_cmp keys)) (map row_of keys) best (λ row. (
+-- the sorted rows are the rows
+pub same-sorted : (keys : List (List ℕ)) (row : Row ℕ) → Contains (map row_of (set_of key_cmp keys)) row ↔ Contains (map row_of keys) row
+same-sorted keys row = (
     λ at. let from = place_of (set_of key_cmp keys) row at in moved (set_of key_cmp keys) keys row from.0 from.1 ((set.same (row_at (set_of key_cmp keys) from.0)).0 (here (set_of key_cmp keys) from.0 from.1.within)),
     λ at. let from = place_of keys row at in moved keys (set_of key_cmp keys) row from.0 from.1 ((set.same (row_at keys from.0)).1 (here keys from.0 from.1.within)),
-  )) where
+  ) where
   set : IsSetOf key_cmp keys (set_of key_cmp keys)
   set = (IsSetOf-set_of key_cmp key_cmp-total key_cmp-exact keys (set_of key_cmp keys)).1 refl
   here : (xs : List (List ℕ)) (k : ℕ) → k < length xs → Contains xs (row_at xs k)
   here xs k lt = (k, lt, get_or_default xs k (row_at xs k) [] lt)
   moved : (xs ys : List (List ℕ)) (row : Row ℕ) (k : ℕ) → IsRowAt xs row k → Contains ys (row_at xs k) → Contains (map row_of ys) row
   moved xs ys row k at there = Contains-place ys row there.0 (record { within = there.1; is = ap row_of (get_or_default ys there.0 [] (row_at xs k) there.1 ∙ there.2) ∙ at.is })
+
+-- keys of the same rows are the same
+pub rows-injective : (xs ys : List (List ℕ)) → map row_of xs ≡ map row_of ys → xs ≡ ys
+rows-injective [] [] h = refl
+rows-injective [] (y ∷ ys) h = absurd (cc)
+rows-injective (x ∷ xs) [] h = absurd (cc)
+rows-injective (x ∷ xs) (y ∷ ys) h =
+    let head : row_of x ≡ row_of y = cc in
+    let tail : map row_of xs ≡ map row_of ys = cc in
+    let first : x ≡ y = row_of-injective x y head in
+    let others : xs ≡ ys = rows-injective xs ys tail in
+    cc
 
 -- keys that are read one after another
 pub keys-step : (rows : List (Row ℕ)) (keys : List (List ℕ)) (i : ℕ) (cells key : List ℕ) → map row_of keys ≡ take i rows → slice_get rows i ≡ Some (row_of cells) → key ≡ cells →

@@ -4,3 +4,4 @@ pub mod Groups
 pub mod Keys
 pub mod Marks
 pub mod Searches
+pub mod Sorted

@@ -5,6 +5,7 @@ ghost use Rattle.alg_model.specs.Limits.{max_variables};
 ghost use Rattle.pattern_tree.specs.BestRows.{AreBest};
 ghost use Rattle.pattern_tree.specs.FlatTable.{row_of};
 ghost use Rattle.null_best.specs.steps.Keys.{key_cmp};
+ghost use Rattle.null_best.specs.steps.Sorted.{AreAscending, HaveSameRows};
 ghost use Rattle.null_best.specs.steps.Marks.{unmarked};
 
 use crate::groups::groups_of;
@@ -20,16 +21,31 @@ pub fn best_match(alloc: Global, rows: FlatRows) -> Result<FlatRows, AllocError>
     ensures vars { IfOk result (λ best. best.vars ≡ rows.vars) }
     ensures best { IfOk result (λ best. AreBest rows.rows best.rows) }
 {
-    best_of(alloc, &rows)
+    let sorted = in_order(alloc, &rows)?;
+    drop(rows);
+    best_of(alloc, &sorted)
 }
 
-fn best_of(alloc: Global, rows: &FlatRows) -> Result<FlatRows, AllocError>
-    requires few { rows.now.vars ≤ max_variables }
-    ensures vars { IfOk result (λ best. best.vars ≡ rows.now.vars) }
-    ensures best { IfOk result (λ best. AreBest rows.now.rows best.rows) }
+/// The rows in order, each once. All later steps read them from front to end, and not from place to place.
+fn in_order(alloc: Global, rows: &FlatRows) -> Result<FlatRows, AllocError>
+    requires { rows.now.vars ≤ max_variables }
+    ensures vars { IfOk result (λ sorted. sorted.vars ≡ rows.now.vars) }
+    ensures ascends { IfOk result (λ sorted. AreAscending sorted.rows) }
+    ensures same { IfOk result (λ sorted. HaveSameRows sorted.rows rows.now.rows) }
 {
     let mut keys = keys_of(alloc, rows)?;
     arrange(&mut keys);
+    rows_of(alloc, rows.vars(), &keys)
+}
+
+/// The best of rows that are in order.
+fn best_of(alloc: Global, rows: &FlatRows) -> Result<FlatRows, AllocError>
+    requires few { rows.now.vars ≤ max_variables }
+    requires ascends { AreAscending rows.now.rows }
+    ensures vars { IfOk result (λ best. best.vars ≡ rows.now.vars) }
+    ensures best { IfOk result (λ best. AreBest rows.now.rows best.rows) }
+{
+    let keys = keys_of(alloc, rows)?;
     let mut marks = vec![in alloc; false; keys.len()]?;
     best_in_order(alloc, rows.vars(), &keys, &mut marks)
 }
@@ -47,7 +63,20 @@ fn keys_of<'r>(alloc: Global, rows: &'r FlatRows) -> Result<Vec<RowKey<'r>>, All
     Ok(keys)
 }
 
-/// The best of rows that are in order, each of them once.
+/// The rows of keys.
+fn rows_of(alloc: Global, vars: u8, keys: &[RowKey<'_>]) -> Result<FlatRows, AllocError>
+    requires { All (λ key. length key ≡ vars) keys.now }
+    ensures vars { IfOk result (λ rows. rows.vars ≡ vars) }
+    ensures rows { IfOk result (λ rows. rows.rows ≡ map row_of keys.now) }
+{
+    let mut sorted = FlatRows::new(alloc, vars);
+    for key in keys {
+        sorted.push(key.cells())?;
+    }
+    Ok(sorted)
+}
+
+/// The best of rows by their keys, which are in order.
 fn best_in_order(
     alloc: Global,
     vars: u8,
