@@ -61,11 +61,11 @@ module _ (keys : List (List ℕ)) (marks : List Bool) (ascends : IsStrictlySorte
   extended-marked row k at marked = elim ((adds.marked k).0 marked) [
     | inl none ↦ absurd (none-replicate (length keys) k none)
     | inr improved ↦ record {
-        other = row_of (row_at keys improved.by);
-        listed = Contains-place keys (row_of (row_at keys improved.by)) improved.by (record { within = improved.listed; is = refl });
-        extends = subst (Extends (row_of (row_at keys improved.by))) at.is improved.improves.extends;
-        more = subst (BindsMore (row_of (row_at keys improved.by))) at.is improved.improves.more;
-      }
+      other = row_of (row_at keys improved.by);
+      listed = Contains-place keys (row_of (row_at keys improved.by)) improved.by (record { within = improved.listed; is = refl });
+      extends = subst (Extends (row_of (row_at keys improved.by))) at.is improved.improves.extends;
+      more = subst (BindsMore (row_of (row_at keys improved.by))) at.is improved.improves.more;
+    }
   ]
 
   marked-extended : (row : Row ℕ) (k : ℕ) → IsRowAt keys row k → IsExtended (map row_of keys) row → IsMarked marks k
@@ -100,7 +100,7 @@ module _ (keys : List (List ℕ)) (marks : List Bool) (ascends : IsStrictlySorte
       let from = place_of keys row at.0 in
       let cells = row_at keys from.0 in
       let stays : Contains (unmarked keys marks) cells =
-          Contains-unmarked keys marks from.0 cells from.1.within (get_or_default keys from.0 cells [] from.1.within) (λ marked. at.1 (extended-marked row from.0 from.1 marked)) in
+      Contains-unmarked keys marks from.0 cells from.1.within (get_or_default keys from.0 cells [] from.1.within) (λ marked. at.1 (extended-marked row from.0 from.1 marked)) in
       Contains-place (unmarked keys marks) row stays.0 (record {
         within = stays.1;
         is = ap row_of (get_or_default (unmarked keys marks) stays.0 [] cells stays.1 ∙ stays.2) ∙ from.1.is;
@@ -127,13 +127,15 @@ best-same {V} xs ys best same are = record {
 -- the sorted rows are the rows
 pub same-sorted : (keys : List (List ℕ)) (row : Row ℕ) → Contains (map row_of (set_of key_cmp keys)) row ↔ Contains (map row_of keys) row
 same-sorted keys row = (
-    λ at. let from = place_of (set_of key_cmp keys) row at in moved (set_of key_cmp keys) keys row from.0 from.1 ((set.same (row_at (set_of key_cmp keys) from.0)).0 (here (set_of key_cmp keys) from.0 from.1.within)),
-    λ at. let from = place_of keys row at in moved keys (set_of key_cmp keys) row from.0 from.1 ((set.same (row_at keys from.0)).1 (here keys from.0 from.1.within)),
-  ) where
+  λ at. let from = place_of (set_of key_cmp keys) row at in moved (set_of key_cmp keys) keys row from.0 from.1 ((set.same (row_at (set_of key_cmp keys) from.0)).0 (here (set_of key_cmp keys) from.0 from.1.within)),
+  λ at. let from = place_of keys row at in moved keys (set_of key_cmp keys) row from.0 from.1 ((set.same (row_at keys from.0)).1 (here keys from.0 from.1.within)),
+) where
   set : IsSetOf key_cmp keys (set_of key_cmp keys)
   set = (IsSetOf-set_of key_cmp key_cmp-total key_cmp-exact keys (set_of key_cmp keys)).1 refl
+
   here : (xs : List (List ℕ)) (k : ℕ) → k < length xs → Contains xs (row_at xs k)
   here xs k lt = (k, lt, get_or_default xs k (row_at xs k) [] lt)
+
   moved : (xs ys : List (List ℕ)) (row : Row ℕ) (k : ℕ) → IsRowAt xs row k → Contains ys (row_at xs k) → Contains (map row_of ys) row
   moved xs ys row k at there = Contains-place ys row there.0 (record { within = there.1; is = ap row_of (get_or_default ys there.0 [] (row_at xs k) there.1 ∙ there.2) ∙ at.is })
 

@@ -79,14 +79,14 @@ module _ {V : Type 0} where
     pub law-exactly : (best : List (Row V)) → ((row : Row V) → Contains rows row → IsPartial row) → ((row : Row V) → IsMaximal row → Contains rows row) → AreBest rows best →
         (row : Row V) → Contains best row ↔ IsMaximal row
     law-exactly best sound complete are row = (
-        λ listed.
+      λ listed.
           let is = (are.exactly row).0 listed in
           record {
             partial = sound row is.0;
             maximal = λ other partial extends more. climb complete row is.1 (suc (unbound_count other)) other partial extends more (omega arith);
           },
-        λ maximal. (are.exactly row).1 (
-          complete row maximal,
-          λ extended. maximal.maximal extended.other (sound extended.other extended.listed) extended.extends extended.more,
-        ),
-      )
+      λ maximal. (are.exactly row).1 (
+        complete row maximal,
+        λ extended. maximal.maximal extended.other (sound extended.other extended.listed) extended.extends extended.more,
+      ),
+    )

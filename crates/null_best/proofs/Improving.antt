@@ -46,6 +46,7 @@ module _ (keys : List (List ℕ)) where
             let same : improved.by ≡ i = omega (arith, le, improved.from.below) in
             inr (improved-matches i k from improved.place (subst (λ j. Improves (row_at keys j) (row_at keys k)) same improved.improves))
       ]
+
       back : IsImprovedAcross keys (front_of large i) small k ⊎ Matches keys small (cut_to small.vars (row_at keys i)) k → IsImprovedAcross keys (front_of large (i + 1)) small k
       back (inl improved) = record { by = improved.by; from = record { from = improved.from.from; below = omega (arith, improved.from.below) }; place = improved.place; improves = improved.improves }
       back (inr match) = record { by = i; from = record { from = from.from; below = omega arith }; place = match.place; improves = matches-improved other i k from match }
@@ -95,6 +96,7 @@ module _ (keys : List (List ℕ)) where
           exists = omega (arith, improved.improved.place.below, is.binds.within);
           improves = improved.improved.improves;
         }
+
     back : IsImprovedBy keys large k → IsImprovedBelow keys large groups (length groups) k
     back improved =
         let has = are.covered k improved.exists in
@@ -134,6 +136,7 @@ module _ (keys : List (List ℕ)) where
           exists = improved.improved.exists;
           improves = improved.improved.improves;
         }
+
     back : IsImproved keys k → IsImprovedFrom keys groups (length groups) k
     back improved =
         let has = are.covered improved.by improved.listed in

@@ -33,6 +33,7 @@ adds-then P Q R a b c both first second = record {
     | inl was ↦ elim ((first.marked k).0 was) [ inl earlier ↦ inl earlier | inr p ↦ inr ((both k).1 (inl p)) ]
     | inr q ↦ inr ((both k).1 (inr q))
   ]
+
   back : (k : ℕ) → IsMarked a k ⊎ R k → IsMarked c k
   back k (inl was) = (second.marked k).1 (inl ((first.marked k).1 (inl was)))
   back k (inr r) = elim ((both k).0 r) [
@@ -48,11 +49,13 @@ adds-one P marks at within is only = record {
 } where
   set : (k : ℕ) → k ≡ at → IsMarked (slice_set marks at true) k
   set k same = ap (λ j. slice_index_or (slice_set marks at true) j false) same ∙ get_or-set_same marks at true false within
+
   forth : (k : ℕ) → IsMarked (slice_set marks at true) k → IsMarked marks k ⊎ P k
   forth k now = elim (cases_eq k at) [
     | inl same ↦ inr (subst P (sym same) is)
     | inr other ↦ inl (sym (get_or-set_other marks at k true false other) ∙ now)
   ]
+
   back : (k : ℕ) → IsMarked marks k ⊎ P k → IsMarked (slice_set marks at true) k
   back k (inr p) = set k (only k p)
   back k (inl was) = elim (cases_eq k at) [

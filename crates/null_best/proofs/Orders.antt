@@ -132,7 +132,7 @@ pub compare-heads : (a b : List ℕ) (a_vars a_head b_vars b_head : ℕ) (first 
     first ≡ nat_cmp a_vars b_vars → first ≡ Equal → second ≡ nat_cmp a_head b_head → (second ≡ Equal → ⊥) → second ≡ key_cmp a b
 compare-heads a b a_vars a_head b_vars b_head first second is other sets same heads differ =
     let tie : nat_cmp (bound_set a) (bound_set b) ≡ Equal =
-        ap (λ n. nat_cmp n (bound_set b)) (sym is.vars_are) ∙ ap (nat_cmp a_vars) (sym other.vars_are) ∙ sym sets ∙ same in
+    ap (λ n. nat_cmp n (bound_set b)) (sym is.vars_are) ∙ ap (nat_cmp a_vars) (sym other.vars_are) ∙ sym sets ∙ same in
     let keyed : key_cmp a b ≡ slice_cmp nat_cmp a b = ap (λ o. ordering_then o (slice_cmp nat_cmp a b)) tie in
     let told : second ≡ nat_cmp (head_of a) (head_of b) = heads ∙ ap (λ n. nat_cmp n b_head) is.head_is ∙ ap (nat_cmp (head_of a)) other.head_is in
     sym (differs second (slice_cmp nat_cmp a b) differ) ∙ ap (λ o. ordering_then o (slice_cmp nat_cmp a b)) told ∙ head-then a b is.words other.words ∙ sym keyed

@@ -67,7 +67,11 @@ fn before(keys: &[RowKey<'_>], group: &Group, near: usize, cut: &RowKey<'_>) -> 
     requires after { near < group.now.end → is_lt (key_cmp (row_at keys.now near) cut.now) ≡ false }
     ensures { IsWindow keys.now group.now cut.now result.0 result.1 }
 {
-    let mut high = if near < group.end { near + 1 } else { group.end };
+    let mut high = if near < group.end {
+        near + 1
+    } else {
+        group.end
+    };
     let mut step = 1;
     while step < high - group.start {
         let probe = high - 1 - step;

@@ -60,6 +60,7 @@ best_of_both = record {
     Contains-tail short (long ∷ []) row at,
     λ extended. long_is_not_extended (subst (IsExtended both) (sym (Contains-single long row at)) extended),
   )
+
   back : (row : Row ℕ) → Contains both row × ¬ IsExtended both row → Contains (long ∷ []) row
   back row at = elim (row_of_both row at.0) [
     | inl is ↦ absurd (at.1 (subst (IsExtended both) is short_is_extended))

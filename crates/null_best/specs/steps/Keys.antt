@@ -52,5 +52,5 @@ second_tells Greater Greater h = refl
 pub keys_tie : (a b : List ℕ) → pointwise ◌==◌ a b ≡ eq_by_cmp key_cmp a b
 keys_tie a b =
     let same_set : slice_cmp nat_cmp a b ≡ Equal → nat_cmp (bound_set a) (bound_set b) ≡ Equal = λ e.
-        subst (λ c. nat_cmp (bound_set a) (bound_set c) ≡ Equal) (exact_bytes a b e) (tied_itself nat_cmp_total (bound_set a)) in
+    subst (λ c. nat_cmp (bound_set a) (bound_set c) ≡ Equal) (exact_bytes a b e) (tied_itself nat_cmp_total (bound_set a)) in
     texts_ties a b ∙ second_tells (nat_cmp (bound_set a) (bound_set b)) (slice_cmp nat_cmp a b) same_set

@@ -18,7 +18,7 @@ returns-clause-best c =
     let keys = c.args.keys.now in
     let marks = c.mark_extended.new.marks in
     let adds : AddsMarks (IsImproved c.args.keys.now) (replicate (length c.args.keys.now) false) c.mark_extended.new.marks =
-        subst (λ old. AddsMarks (IsImproved keys) old marks) c.requires.none c.in_ok-mark_extended.ensures in
+    subst (λ old. AddsMarks (IsImproved keys) old marks) c.requires.none c.in_ok-mark_extended.ensures in
     IfOk-weaker c.unmarked_rows.result (λ rows. rows.rows ≡ map row_of (unmarked keys marks)) (λ rows. AreBest (map row_of keys) rows.rows)
     (λ rows is. subst (AreBest (map row_of keys)) (sym is) (best-unmarked keys marks c.requires.ascends adds (adds.len ∙ length-replicate (length keys) false)))
     c.unmarked_rows.ensures.rows

@@ -29,8 +29,8 @@ returns-clause-same c =
     IfOk-weaker c.rows_of.result (λ sorted. sorted.rows ≡ map row_of c.deref.result.now) (λ sorted. HaveSameRows sorted.rows c.args.rows.now.rows)
     (λ sorted is. record {
       same = λ row.
-        subst (λ rows. Contains rows row ↔ Contains c.args.rows.now.rows row) (sym is)
-        (subst (λ xs. Contains (map row_of xs) row ↔ Contains c.args.rows.now.rows row) (sym (c.deref.ensures.value ∙ c.arrange.ensures))
+          subst (λ rows. Contains rows row ↔ Contains c.args.rows.now.rows row) (sym is)
+          (subst (λ xs. Contains (map row_of xs) row ↔ Contains c.args.rows.now.rows row) (sym (c.deref.ensures.value ∙ c.arrange.ensures))
           (subst (λ rows. Contains (map row_of (set_of key_cmp keys)) row ↔ Contains rows row) c.in_ok-keys.ensures.rows (same-sorted keys row)));
     })
     c.rows_of.ensures.rows

@@ -17,11 +17,11 @@ loop-small-preserved c =
     elim c.if-is_part.branch [
       | then-is_part+in_ok-mark_group w ↦ subst (AddsMarks (IsImprovedBelow keys large groups (i + 1)) c.args.marks.now) (sym w.marks-is)
           (adds-then (IsImprovedBelow keys large groups i) (IsImprovedAcross keys large small) (IsImprovedBelow keys large groups (i + 1)) c.args.marks.now c.loop-small.marks w.mark_group.new.marks
-            (below-step keys large groups i) c.loop-small.invariant w.in_ok-mark_group.ensures)
+          (below-step keys large groups i) c.loop-small.invariant w.in_ok-mark_group.ensures)
       | else-is_part w ↦ subst (AddsMarks (IsImprovedBelow keys large groups (i + 1)) c.args.marks.now) (sym w.marks-is)
           (adds-then (IsImprovedBelow keys large groups i) (IsImprovedAcross keys large small) (IsImprovedBelow keys large groups (i + 1)) c.args.marks.now c.loop-small.marks c.loop-small.marks
-            (below-step keys large groups i) c.loop-small.invariant
-            (adds-none (IsImprovedAcross keys large small) c.loop-small.marks (across-none keys large small c.requires.widths c.requires.large is_small (λ part. absurd (cc (w.if-is_part.false, c.is_part.ensures.1 part))))))
+          (below-step keys large groups i) c.loop-small.invariant
+          (adds-none (IsImprovedAcross keys large small) c.loop-small.marks (across-none keys large small c.requires.widths c.requires.large is_small (λ part. absurd (cc (w.if-is_part.false, c.is_part.ensures.1 part))))))
     ]
 
 pub returns : goal.returns
