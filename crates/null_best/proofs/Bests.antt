@@ -83,9 +83,6 @@ module _ (keys : List (List ℕ)) (marks : List Bool) (ascends : IsStrictlySorte
         };
       }))
 
-  left : List (List ℕ)
-  left = unmarked keys marks
-
   forth : (row : Row ℕ) → Contains (map row_of (unmarked keys marks)) row → Contains (map row_of keys) row × ¬ IsExtended (map row_of keys) row
   forth row at =
       let from = place_of (unmarked keys marks) row at in

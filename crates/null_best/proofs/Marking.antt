@@ -103,14 +103,14 @@ Contains-unmarked (y ∷ xs) (false ∷ marks) zero x within is plain = subst (C
 Contains-unmarked (y ∷ xs) (false ∷ marks) (suc k) x within is plain = Contains-tail y (unmarked xs marks) x (Contains-unmarked xs marks k x (omega arith) is plain)
 
 -- what holds of all items holds of those that are left
-All-tail' : {X : Type 0} (P : X → Type 0) (x : X) (xs : List X) → All P (x ∷ xs) → All P xs
-All-tail' P x xs all k d lt = all (suc k) d (omega arith)
+All-rest : {X : Type 0} (P : X → Type 0) (x : X) (xs : List X) → All P (x ∷ xs) → All P xs
+All-rest P x xs all k d lt = all (suc k) d (omega arith)
 
 pub All-unmarked : {X : Type 0} (P : X → Type 0) (xs : List X) (marks : List Bool) → All P xs → All P (unmarked xs marks)
 All-unmarked P [] marks all = all
-All-unmarked P (x ∷ xs) [] all = All-cons P x (unmarked xs []) (all 0 x (omega arith)) (All-unmarked P xs [] (All-tail' P x xs all))
-All-unmarked P (x ∷ xs) (true ∷ marks) all = All-unmarked P xs marks (All-tail' P x xs all)
-All-unmarked P (x ∷ xs) (false ∷ marks) all = All-cons P x (unmarked xs marks) (all 0 x (omega arith)) (All-unmarked P xs marks (All-tail' P x xs all))
+All-unmarked P (x ∷ xs) [] all = All-cons P x (unmarked xs []) (all 0 x (omega arith)) (All-unmarked P xs [] (All-rest P x xs all))
+All-unmarked P (x ∷ xs) (true ∷ marks) all = All-unmarked P xs marks (All-rest P x xs all)
+All-unmarked P (x ∷ xs) (false ∷ marks) all = All-cons P x (unmarked xs marks) (all 0 x (omega arith)) (All-unmarked P xs marks (All-rest P x xs all))
 
 pub AllPairs-unmarked : {X : Type 0} (R : X → X → Type 0) (xs : List X) (marks : List Bool) → AllPairs R xs → AllPairs R (unmarked xs marks)
 AllPairs-unmarked R [] marks all = all

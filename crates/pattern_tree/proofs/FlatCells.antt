@@ -3,7 +3,7 @@ use Rattle.std.proofs.Common.{◌≡◌, ℕ, zero, suc, add-one, ◌+◌, ◌*�
 use Rattle.std.proofs.lemmas.List.{take_all, take-append-le, drop-append-le, drop-drop, map-append, length-map, get_or-map}
 use native.Mathlib.Nat.{zero-mul, suc-mul, mul-le-mul_right}
 use Rattle.std.specs.Simd.{first_chunks}
-use Rattle.pattern_tree.specs.FlatTable.{cell_of, row_of}
+use Rattle.pattern_tree.specs.FlatTable.{row_of}
 
 nothing_left : {X : Type 0} (xs : List X) → length xs ≡ 0 → xs ≡ []
 nothing_left [] h = refl

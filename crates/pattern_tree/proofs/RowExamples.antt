@@ -1,7 +1,7 @@
 -- Worked examples: a row of numbers of cells, by computation, and the best of two rows.
-use Rattle.std.proofs.Common.{◌≡◌, ◌≢◌, ◌↔◌, ◌⊎◌, inl, inr, ℕ, zero, suc, ◌<◌, List, [], ◌∷◌, Option, Some, None, IsSome, AllPairs, Contains, refl, sym, subst, lit<, arith}
+use Rattle.std.proofs.Common.{◌≡◌, ◌⊎◌, inl, inr, ℕ, zero, suc, List, [], ◌∷◌, Some, None, IsSome, Contains, refl, sym, subst, lit<, arith}
 use Rattle.bm_term.proofs.Elements.{Contains-head, Contains-tail, Contains-single, Contains-cons_cases}
-use Rattle.alg_model.specs.Row.{Row, binding, Extends, BindsMore}
+use Rattle.alg_model.specs.Row.{Row, binding, Extends}
 use Rattle.pattern_tree.specs.BestRows.{IsExtended, AreBest}
 use Rattle.pattern_tree.specs.FlatTable.{row_of}
 
