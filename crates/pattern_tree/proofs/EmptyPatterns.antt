@@ -1,10 +1,10 @@
 -- A pattern without triple patterns, for the tests: it is well designed and keeps the limits.
-use Rattle.std.proofs.Common.{◌≡◌, ℕ, List, [], ◌∷◌, refl, sym, subst, arith, lit≤}
+use Rattle.std.proofs.Common.{[], ◌∷◌, refl, arith, lit≤}
 use Rattle.std.proofs.lemmas.List.Elements.{All-nil, All-cons}
 use Rattle.bm_term.proofs.Elements.{Contains-nil}
 use Rattle.alg_model.specs.Limits.{max_variables, PatternKeepsLimits}
 use Rattle.alg_model.specs.Pattern.{Algebra, Bgp, LeftJoin}
-use Rattle.alg_model.specs.WellDesigned.{OptionalPart, IsFine, IsWellDesigned}
+use Rattle.alg_model.specs.WellDesigned.{IsFine, IsWellDesigned}
 
 -- {} OPTIONAL {{} OPTIONAL {}}
 abbrev pub empty_chain : Algebra

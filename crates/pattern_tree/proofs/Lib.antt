@@ -3,10 +3,12 @@ pub mod Distinct
 pub mod EmptyPatterns
 pub mod Evaluation
 pub mod Examples
+pub mod FlatCells
 pub mod Growth
 pub mod NodeNumbers
 pub mod Nodes
 pub mod PatternTrees
 pub mod RootedSets
+pub mod RowExamples
 pub mod TreeSizes
 pub mod Unions

@@ -1,5 +1,5 @@
 -- Node k of a tree is the k-th OPTIONAL of the text, with the triple patterns of the root of its right side.
-use Rattle.std.proofs.Common.{◌≡◌, ℕ, ◌+◌, ◌++◌, List, [], ◌∷◌, length, map, None, refl, sym, ◌∙◌, ap, arith}
+use Rattle.std.proofs.Common.{◌≡◌, ℕ, ◌++◌, List, [], ◌∷◌, length, map, refl, sym, ◌∙◌, ap, arith}
 use Rattle.std.proofs.lemmas.List.{length-append, map-append}
 use Rattle.alg_model.specs.declared.pattern.TriplePat.{TriplePat}
 use Rattle.alg_model.specs.Pattern.{Algebra, Bgp, Join, LeftJoin, vars_of, optional_parts}

@@ -1,3 +1,5 @@
+pub mod BestRows
+pub mod FlatTable
 pub mod Growing
 pub mod Parts
 pub mod PatternTree

@@ -1,13 +1,15 @@
 //! The tree of a well-designed pattern, its partial solutions, and the law that evaluation gives exactly the maximal ones.
-//! `tree_of` makes the tree, and `Tree` shows its nodes.
+//! `tree_of` makes the tree, and `Tree` shows its nodes. `FlatRows` holds rows of numbers, for the engine.
 #![tactic(auto)]
 
+mod flat_rows;
 mod laws;
 mod node;
 #[cfg(test)]
 mod tests;
 mod tree;
 
+pub use flat_rows::FlatRows;
 pub use laws::{
     maximal_solution_law, node_number_law, partial_solution_law, pattern_tree_law,
     shared_variable_law,

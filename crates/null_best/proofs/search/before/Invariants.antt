@@ -1,0 +1,9 @@
+use Rattle.std.proofs.Common.{◌<◌, ◌-◌}
+use Rattle.null_best.specs.steps.Searches.{IsWindow}
+use Rattle.null_best.proofs.search.before.Given as goal
+
+abbrev pub invariant-loop-step : goal.invariant-loop-step
+invariant-loop-step l = (0 < l.step) × IsWindow l.keys l.group l.cut l.group.start l.high
+
+abbrev pub decreases-loop-step : goal.decreases-loop-step
+decreases-loop-step l = l.high - l.group.start
