@@ -18,7 +18,7 @@ pub const QUERY: &str = "SELECT * { ?x <urn:p> ?y . ?y <urn:p> ?z }";
 pub const ANSWER: &str = "?x\t?y\t?z\n<urn:a>\t<urn:b>\t<urn:c>\n";
 
 /// A world with the two files `d` and `q`.
-pub fn world_of(alloc: Global, data: &str, query: &str) -> Result<MemWorld, AllocError>
+pub fn files_of(alloc: Global, data: &str, query: &str) -> Result<MemWorld, AllocError>
     ensures { IfOk result (λ world. world ≡ world_with «data».now query.now) }
 {
     let mut world = MemWorld::new(alloc);
@@ -27,16 +27,8 @@ pub fn world_of(alloc: Global, data: &str, query: &str) -> Result<MemWorld, Allo
     Ok(world)
 }
 
-/// The status of these words over a world in which no file is being made, as none is after it. `Err` where memory runs out
-/// before the program has begun. A test calls this one: it knows of the promises of `run` no more than it needs.
-pub fn ask(alloc: Global, words: &[&str], world: &mut MemWorld) -> Result<u8, AllocError>
-    requires { NothingIsMade world.old.meanings }
-    ensures { NothingIsMade world.new.meanings }
-{
-    status_of(alloc, words, world)
-}
-
-/// The same, with all that `run` promises.
+/// The status of these words over a world in which no file is being made, as none is after it, with all that `run` promises.
+/// `Err` where memory runs out before the program has begun.
 pub fn status_of(alloc: Global, words: &[&str], world: &mut MemWorld) -> Result<u8, AllocError>
     requires { NothingIsMade world.old.meanings }
     ensures ran { IfOk result (Ran (map (λ word. word.now) words.now) world.old world.new) }

@@ -1,5 +1,6 @@
 //! What the tests share: a query is asked, and its text or its line is compared.
-use crate::asking::{DATA, ask, world_of};
+use crate::asking::DATA;
+use crate::stage::Stage;
 use std::alloc::{AllocError, Global};
 use std::process::Abort;
 use std::test::Fail;
@@ -25,8 +26,8 @@ pub fn check_answer(
     query: &str,
     answer: &str,
 ) -> Result<(), Fail> {
-    let mut world = world_of(alloc, data, query)?;
-    let status = ask(alloc, &["ask", "d", "q", "tsv"], &mut world)?;
+    let mut world = Stage::with_files(alloc, data, query)?;
+    let status = world.ask(alloc, &["ask", "d", "q", "tsv"])?;
     assert_eq!(rt; status, 0, "{query}");
     assert_eq!(rt; shown(alloc, world.printed())?.as_str(), answer, "{query}");
     assert!(rt; world.complained().is_empty(), "{query}");
@@ -50,9 +51,9 @@ pub fn check_refusal(
     query: &[u8],
     fault: &str,
 ) -> Result<(), Fail> {
-    let mut world = world_of(alloc, DATA, "")?;
+    let mut world = Stage::with_files(alloc, DATA, "")?;
     world.put_file("q", query)?;
-    let status = ask(alloc, &["ask", "d", "q", "tsv"], &mut world)?;
+    let status = world.ask(alloc, &["ask", "d", "q", "tsv"])?;
     assert_eq!(rt; status, 3, "{fault}");
     assert!(rt; world.printed().is_empty(), "{fault}");
     let mut line = String::from_str(alloc, "query refused: ")?;

@@ -1,6 +1,7 @@
 //! Each call of a run fails in turn.
-use crate::asking::{ANSWER, DATA, QUERY, ask, world_of};
-use bm_world::{MemWorld, WorldCall};
+use crate::asking::{ANSWER, DATA, QUERY};
+use crate::stage::Stage;
+use bm_world::WorldCall;
 use std::test::Fail;
 
 /// A call that is scheduled to fail, the status, and the line.
@@ -19,9 +20,9 @@ const FAILURES: [(WorldCall, u64, u8, &str); 8] = [
 fn each_call_of_a_run_fails_in_turn(rt: HostRuntime) -> Result<(), Fail> {
     let alloc = rt.alloc();
     for (call, k, wanted, line) in FAILURES {
-        let mut world = world_of(alloc, DATA, QUERY)?;
+        let mut world = Stage::with_files(alloc, DATA, QUERY)?;
         world.fail_at(call, k)?;
-        let status = ask(alloc, &["ask", "d", "q", "tsv"], &mut world)?;
+        let status = world.ask(alloc, &["ask", "d", "q", "tsv"])?;
         let printed = if wanted == 0 { ANSWER } else { "" };
         assert!(rt; status == wanted, "{line}");
         assert!(rt; world.printed() == printed.as_bytes(), "{line}");
@@ -43,15 +44,15 @@ const PIECES: [(u64, &str); 4] = [
 fn a_failure_of_standard_error_changes_no_status(rt: HostRuntime) -> Result<(), Fail> {
     let alloc = rt.alloc();
     for (k, said) in PIECES {
-        let mut world = world_of(alloc, DATA, QUERY)?;
+        let mut world = Stage::with_files(alloc, DATA, QUERY)?;
         world.fail_at(WorldCall::Complain, k)?;
-        let status = ask(alloc, &["ask", "e", "q", "tsv"], &mut world)?;
+        let status = world.ask(alloc, &["ask", "e", "q", "tsv"])?;
         assert!(rt; status == 5, "{said}");
         assert!(rt; world.complained() == said.as_bytes(), "{said}");
     }
-    let mut world = MemWorld::new(alloc);
+    let mut world = Stage::new(alloc);
     world.fail_at(WorldCall::Complain, 1)?;
-    assert!(rt; ask(alloc, &[], &mut world)? == 1);
+    assert!(rt; world.ask(alloc, &[])? == 1);
     assert!(rt; world.complained().is_empty());
     Ok(())
 }

@@ -1,8 +1,7 @@
 //! Indexes that are loaded, asked and checked, and files that are none.
-ghost use Rattle.bm_world.specs.World.{NothingIsMade};
-
-use crate::asking::{ANSWER, DATA, QUERY, ask, world_of};
-use bm_world::{MemWorld, WorldCall};
+use crate::asking::{ANSWER, DATA, QUERY};
+use crate::stage::Stage;
+use bm_world::WorldCall;
 use std::alloc::Global;
 use std::process::Abort;
 use std::test::Fail;
@@ -14,28 +13,24 @@ const STORED: &str = "stored triples 2 bytes 272\n";
 const COUNTED: &str =
     "index ok: version 1, triples 2, shared 1, subjects 1, objects 1, predicates 1\n";
 
-/// Words that end with status 0, and print this after what was printed before.
+/// Words that end with status 0, and print this at the end.
 fn does(
     rt: &impl Abort,
     alloc: Global,
     words: &[&str],
     printed: &str,
-    world: &mut MemWorld,
-) -> Result<(), Fail>
-    requires { NothingIsMade world.old.meanings }
-    ensures { NothingIsMade world.new.meanings }
-{
-    let before = world.printed().len();
-    let status = ask(alloc, words, world)?;
+    world: &mut Stage,
+) -> Result<(), Fail> {
+    let status = world.ask(alloc, words)?;
     assert_eq!(rt; status, 0, "{printed}");
-    assert_eq!(rt; str::from_utf8(&world.printed()[before..])?, printed);
+    assert!(rt; world.printed().ends_with(printed.as_bytes()), "{printed}");
     Ok(())
 }
 
 #[test]
 fn an_index_is_loaded_asked_and_checked(rt: HostRuntime) -> Result<(), Fail> {
     let alloc = rt.alloc();
-    let mut world = world_of(alloc, DATA, QUERY)?;
+    let mut world = Stage::with_files(alloc, DATA, QUERY)?;
     does(&rt, alloc, &["load", "d", "i"], STORED, &mut world)?;
     does(&rt, alloc, &["query", "i", "q", "tsv"], ANSWER, &mut world)?;
     does(&rt, alloc, &["check", "i"], COUNTED, &mut world)?;
@@ -46,10 +41,10 @@ fn an_index_is_loaded_asked_and_checked(rt: HostRuntime) -> Result<(), Fail> {
 #[test]
 fn an_index_may_take_the_place_of_its_data(rt: HostRuntime) -> Result<(), Fail> {
     let alloc = rt.alloc();
-    let mut world = world_of(alloc, DATA, QUERY)?;
+    let mut world = Stage::with_files(alloc, DATA, QUERY)?;
     does(&rt, alloc, &["load", "d", "d"], STORED, &mut world)?;
     does(&rt, alloc, &["query", "d", "q", "tsv"], ANSWER, &mut world)?;
-    assert!(rt; ask(alloc, &["load", "d", "j"], &mut world)? == 2);
+    assert!(rt; world.ask(alloc, &["load", "d", "j"])? == 2);
     assert!(rt; world.complained() == b"data refused: line 1\n".as_slice());
     assert!(rt; world.file("j").is_none());
     Ok(())
@@ -58,7 +53,7 @@ fn an_index_may_take_the_place_of_its_data(rt: HostRuntime) -> Result<(), Fail> 
 #[test]
 fn an_index_of_no_triples_has_52_bytes(rt: HostRuntime) -> Result<(), Fail> {
     let alloc = rt.alloc();
-    let mut world = world_of(alloc, "", QUERY)?;
+    let mut world = Stage::with_files(alloc, "", QUERY)?;
     does(
         &rt,
         alloc,
@@ -92,9 +87,9 @@ fn refuses(rt: &impl Abort, alloc: Global, index: &[u8], part: &str) -> Result<(
         ["check", "i"].as_slice(),
         ["query", "i", "q", "tsv"].as_slice(),
     ] {
-        let mut world = world_of(alloc, DATA, QUERY)?;
+        let mut world = Stage::with_files(alloc, DATA, QUERY)?;
         world.put_file("i", index)?;
-        let status = ask(alloc, words, &mut world)?;
+        let status = world.ask(alloc, words)?;
         let line = format!(in alloc; "index refused: {part}\n")?;
         assert_eq!(rt; status, 4, "{part}");
         assert_eq!(rt; str::from_utf8(world.complained())?, line.as_str());
@@ -106,15 +101,16 @@ fn refuses(rt: &impl Abort, alloc: Global, index: &[u8], part: &str) -> Result<(
 #[test]
 fn a_damaged_index_is_refused_by_its_part(rt: HostRuntime) -> Result<(), Fail> {
     let alloc = rt.alloc();
-    let mut world = world_of(alloc, DATA, QUERY)?;
+    let mut world = Stage::with_files(alloc, DATA, QUERY)?;
     does(&rt, alloc, &["load", "d", "i"], STORED, &mut world)?;
     let whole = world.file("i").ok_or("no index")?;
     refuses(&rt, alloc, &[], "header")?;
-    refuses(&rt, alloc, &whole[..whole.len() - 1], "length")?;
+    let (_, front) = whole.split_last().ok_or("no byte")?;
+    refuses(&rt, alloc, front, "length")?;
     for (places, part) in DAMAGES {
         let mut index = Vec::from_slice(alloc, whole)?;
         for (place, byte) in places {
-            index[*place] = *byte;
+            *index.get_mut(*place).ok_or("no such byte")? = *byte;
         }
         refuses(&rt, alloc, &index, part)?;
     }
@@ -135,9 +131,9 @@ const FAILURES: [(WorldCall, u8, &str, Option<usize>); 6] = [
 fn each_call_of_load_fails_in_turn(rt: HostRuntime) -> Result<(), Fail> {
     let alloc = rt.alloc();
     for (call, wanted, line, left) in FAILURES {
-        let mut world = world_of(alloc, DATA, QUERY)?;
+        let mut world = Stage::with_files(alloc, DATA, QUERY)?;
         world.fail_at(call, 1)?;
-        let status = ask(alloc, &["load", "d", "i"], &mut world)?;
+        let status = world.ask(alloc, &["load", "d", "i"])?;
         assert!(rt; status == wanted, "{line}");
         assert!(rt; world.printed().is_empty(), "{line}");
         assert!(rt; world.complained() == line.as_bytes(), "{line}");

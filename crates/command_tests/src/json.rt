@@ -1,5 +1,6 @@
 //! Answers as JSON.
-use crate::asking::{DATA, QUERY, ask, world_of};
+use crate::asking::{DATA, QUERY};
+use crate::stage::Stage;
 use std::test::Fail;
 
 const TWO: &str = "<urn:a> <urn:p> <urn:b> .\n<urn:a> <urn:p> <urn:c> .\n";
@@ -63,8 +64,8 @@ const ANSWERS: [(&str, &str, &str); 9] = [
 fn answers_as_json(rt: HostRuntime) -> Result<(), Fail> {
     let alloc = rt.alloc();
     for (data, query, answer) in ANSWERS {
-        let mut world = world_of(alloc, data, query)?;
-        let status = ask(alloc, &["ask", "d", "q", "json"], &mut world)?;
+        let mut world = Stage::with_files(alloc, data, query)?;
+        let status = world.ask(alloc, &["ask", "d", "q", "json"])?;
         assert_eq!(rt; status, 0);
         assert_eq!(rt; str::from_utf8(world.printed())?, answer);
         assert!(rt; world.complained().is_empty());

@@ -17,7 +17,9 @@ mod json;
 mod queries;
 #[cfg(test)]
 mod refusals;
+mod stage;
 #[cfg(test)]
 mod words;
 
-pub use asking::{ANSWER, DATA, QUERY, ask, status_of, world_of};
+pub use asking::{ANSWER, DATA, QUERY, files_of, status_of};
+pub use stage::Stage;

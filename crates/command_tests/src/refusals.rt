@@ -1,6 +1,7 @@
 //! Data and queries that are refused, with their lines.
-use crate::asking::{DATA, QUERY, ask, world_of};
+use crate::asking::{DATA, QUERY};
 use crate::checking::{check_refusal, check_refusals, long_query, push_variables};
+use crate::stage::Stage;
 use std::test::Fail;
 
 /// A data file, a query, the status and the line on standard error.
@@ -57,8 +58,8 @@ const REFUSALS: [(&str, &str, u8, &str); 9] = [
 fn refusals_have_their_lines(rt: HostRuntime) -> Result<(), Fail> {
     let alloc = rt.alloc();
     for (data, query, wanted, line) in REFUSALS {
-        let mut world = world_of(alloc, data, query)?;
-        let status = ask(alloc, &["ask", "d", "q", "tsv"], &mut world)?;
+        let mut world = Stage::with_files(alloc, data, query)?;
+        let status = world.ask(alloc, &["ask", "d", "q", "tsv"])?;
         assert!(rt; status == wanted, "{data} {query}");
         assert!(rt; world.printed().is_empty(), "{data} {query}");
         assert!(rt; world.complained() == line.as_bytes(), "{data} {query}");
@@ -69,9 +70,9 @@ fn refusals_have_their_lines(rt: HostRuntime) -> Result<(), Fail> {
 #[test]
 fn a_line_that_is_not_utf_8_is_refused(rt: HostRuntime) -> Result<(), Fail> {
     let alloc = rt.alloc();
-    let mut world = world_of(alloc, "", QUERY)?;
+    let mut world = Stage::with_files(alloc, "", QUERY)?;
     world.put_file("d", b"<urn:a> <urn:p> <urn:b> .\n\xFF\n".as_slice())?;
-    assert!(rt; ask(alloc, &["ask", "d", "q", "tsv"], &mut world)? == 2);
+    assert!(rt; world.ask(alloc, &["ask", "d", "q", "tsv"])? == 2);
     assert!(rt; world.printed().is_empty());
     assert!(rt; world.complained() == b"data refused: line 2\n".as_slice());
     Ok(())

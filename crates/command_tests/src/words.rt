@@ -1,5 +1,6 @@
 //! The words of a command, and the files that it names.
-use crate::asking::{QUERY, ask, world_of};
+use crate::asking::QUERY;
+use crate::stage::Stage;
 use std::test::Fail;
 
 const USAGE: &str =
@@ -26,8 +27,8 @@ const WORDS: [(&[&str], u8, &str); 13] = [
 fn words_and_files_are_looked_at_first(rt: HostRuntime) -> Result<(), Fail> {
     let alloc = rt.alloc();
     for (words, wanted, line) in WORDS {
-        let mut world = world_of(alloc, "no data", QUERY)?;
-        let status = ask(alloc, words, &mut world)?;
+        let mut world = Stage::with_files(alloc, "no data", QUERY)?;
+        let status = world.ask(alloc, words)?;
         assert!(rt; status == wanted, "{line}");
         assert!(rt; world.printed().is_empty(), "{line}");
         assert!(rt; world.complained() == line.as_bytes(), "{line}");
@@ -39,9 +40,9 @@ fn words_and_files_are_looked_at_first(rt: HostRuntime) -> Result<(), Fail> {
 fn a_long_query_file_is_refused(rt: HostRuntime) -> Result<(), Fail> {
     let alloc = rt.alloc();
     let spaces = vec![in alloc; b' '; 1_048_577]?;
-    let mut world = world_of(alloc, "x", "")?;
+    let mut world = Stage::with_files(alloc, "x", "")?;
     world.put_file("q", &spaces)?;
-    assert!(rt; ask(alloc, &["ask", "d", "q", "tsv"], &mut world)? == 8);
+    assert!(rt; world.ask(alloc, &["ask", "d", "q", "tsv"])? == 8);
     assert!(rt; world.complained() == b"limit: q is longer than 1048576 bytes\n".as_slice());
     Ok(())
 }
