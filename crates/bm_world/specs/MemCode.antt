@@ -42,8 +42,8 @@ faults_code = code_by
 
 abbrev pub state_code : Coded MemState
 state_code = code_by
-    (Meanings × (Faults × Schedule))
-    (coded× meanings_code (coded× faults_code schedule_code))
-    (λ s. (s.meanings, (s.faults, s.schedule)))
-    (λ p. record { meanings = p.0; faults = p.1.0; schedule = p.1.1 })
+    (Meanings × (Faults × (Schedule × Option ℕ)))
+    (coded× meanings_code (coded× faults_code (coded× schedule_code (coded_option coded_ℕ))))
+    (λ s. (s.meanings, (s.faults, (s.schedule, s.piece))))
+    (λ p. record { meanings = p.0; faults = p.1.0; schedule = p.1.1.0; piece = p.1.1.1 })
     (λ _. refl)

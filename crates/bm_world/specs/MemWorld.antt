@@ -1,5 +1,5 @@
 -- A world in memory as clauses see it, and how its calls end.
-use Rattle.std.specs.Prelude.{◌≡◌, ℕ, ◌+◌, ◌-◌, ◌^◌, ◌==◌, if◌then◌else◌, Bool, true, false, List, Result, Ok, Err}
+use Rattle.std.specs.Prelude.{◌≡◌, ℕ, ◌+◌, ◌-◌, ◌^◌, ◌==◌, if◌then◌else◌, min, Bool, true, false, List, Option, None, Some, Result, Ok, Err}
 use Rattle.std.specs.FinMap.{insert}
 use Rattle.bm_world.specs.declared.world.Failed.{Failed}
 use Rattle.bm_world.specs.declared.world.Faults.{Faults}
@@ -11,6 +11,13 @@ pub record MemState : Type 0 where
   pub faults : Faults
   -- the calls that are to fail
   pub schedule : Schedule
+  -- how many bytes a call takes at most, where that is limited
+  pub piece : Option ℕ
+
+-- how many of so many bytes one call takes
+abbrev pub taken_of : Option ℕ → ℕ → ℕ
+taken_of None bytes = bytes
+taken_of (Some piece) bytes = min piece bytes
 
 -- this file among the others
 abbrev pub with_file : MemState → List ℕ → List ℕ → MemState

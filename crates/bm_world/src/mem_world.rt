@@ -1,12 +1,12 @@
 //! A world in memory.
-ghost use Rattle.std.specs.Prelude.{◌≡◌, ◌++◌, [], ◌∷◌, None, Some, IfOk, OnOk, OnErr, IsSome, IsOk, string_bytes, min, length, map, take, drop, is_some, is_none, is_ok, false, if◌then◌else◌};
+ghost use Rattle.std.specs.Prelude.{◌≡◌, ◌<◌, ◌++◌, [], ◌∷◌, None, Some, IfOk, OnOk, OnErr, IsSome, IsOk, string_bytes, min, length, map, take, drop, is_some, is_none, is_ok, false, if◌then◌else◌};
 ghost use Rattle.std.specs.Option.{option_copied, option_map};
 ghost use Rattle.std.specs.Result.{result_unwrap_or};
 ghost use Rattle.std.specs.FinMap as fin_map;
 ghost use Rattle.bm_world.specs.Meanings.{nothing_yet, file_at, left_to_read, with_opened, with_begun, with_written, with_printed, with_complained};
 ghost use Rattle.bm_world.specs.World.{no_faults};
 ghost use Rattle.bm_world.specs.Schedule.{is_due, after_call};
-ghost use Rattle.bm_world.specs.MemWorld.{with_file, raised, Ends};
+ghost use Rattle.bm_world.specs.MemWorld.{with_file, raised, taken_of, Ends};
 
 use crate::file_table::FileTable;
 use crate::open_file::OpenFile;
@@ -29,10 +29,11 @@ pub struct MemWorld {
     complained: Vec<u8>,
     faults: Faults,
     schedule: Schedule,
+    piece: Option<usize>,
 }
 
 impl Model for MemWorld {
-    ghost use Rattle.std.specs.Prelude.{map, string_bytes};
+    ghost use Rattle.std.specs.Prelude.{◌<◌, IfSome, map, string_bytes};
     ghost use Rattle.std.specs.Option.{option_map};
     ghost use Rattle.bm_world.specs.MemWorld.{MemState};
     ghost use Rattle.bm_world.specs.MemCode.{state_code};
@@ -52,16 +53,20 @@ impl Model for MemWorld {
       };
       faults = w.faults;
       schedule = w.schedule;
+      piece = w.piece;
     } };
+
+    ghost invariant = { λ w. IfSome w.piece (λ piece. 0 < piece) };
 }
 
 impl MemWorld {
-    /// A world with no files, nothing open, no file being made, nothing written and no faults.
+    /// A world with no files, nothing open, no file being made, nothing written and no faults. A call takes all bytes.
     pub fn new(alloc: Global) -> Self
         ensures { result ≡ record {
           meanings = nothing_yet;
           faults = no_faults;
           schedule = [];
+          piece = None;
         } }
     {
         MemWorld {
@@ -78,6 +83,7 @@ impl MemWorld {
                 says: 0,
             },
             schedule: Schedule::new(alloc),
+            piece: None,
         }
     }
 
@@ -97,6 +103,14 @@ impl MemWorld {
         ensures err { OnErr result (self.new ≡ self.old) }
     {
         self.schedule.add(call, k)
+    }
+
+    /// From now on a `read`, `write`, `print` or `complain` takes at most `n` bytes.
+    pub fn piece_at_most(&mut self, n: usize)
+        requires { 0 < n }
+        ensures { self.new ≡ record self.old { piece = Some n } }
+    {
+        self.piece = Some(n);
     }
 
     /// The bytes of the named file, and `None` exactly where there is no file of this name.
@@ -134,6 +148,16 @@ impl MemWorld {
             result ≡ (faults.reads, faults.writes, faults.says) }
     {
         (self.faults.reads, self.faults.writes, self.faults.says)
+    }
+}
+
+/// How many of so many bytes one call takes.
+fn taken(piece: Option<usize>, bytes: usize) -> usize
+    ensures { result ≡ taken_of piece bytes }
+{
+    match piece {
+        Some(piece) => piece.min(bytes),
+        None => bytes,
     }
 }
 
@@ -177,7 +201,8 @@ impl World for MemWorld {
         ensures no_memory { is_due WorldCall.Read self.old.schedule ≡ false
             → IsSome self.old.meanings.rest → IsOk result }
         ensures count { IfOk result (λ count.
-            count ≡ min (length into.old) (length (left_to_read self.old.meanings))) }
+            count ≡ taken_of self.old.piece (min (length into.old) (length (left_to_read self.old.meanings)))) }
+        ensures some { IfOk result (λ count. count ≡ 0 → min (length into.old) (length (left_to_read self.old.meanings)) ≡ 0) }
         ensures came { let count = result_unwrap_or result 0 in
             into.new ≡ take count (left_to_read self.old.meanings) ++ drop count into.old }
         ensures exact { self.new ≡ record self.old {
@@ -192,7 +217,10 @@ impl World for MemWorld {
             return Err(raise(&mut self.faults.reads));
         }
         match &mut self.open_file {
-            Some(file) => Ok(file.read(into)),
+            Some(file) => {
+                let count = taken(self.piece, into.len());
+                Ok(file.read(&mut into[..count]))
+            }
             None => Err(Failed),
         }
     }
@@ -224,10 +252,11 @@ impl World for MemWorld {
     fn write(&mut self, piece: &[u8]) -> Result<usize, Failed>
         ensures ends { Ends (is_due WorldCall.Write self.old.schedule)
             (is_none self.old.meanings.made) result self.old.faults.writes self.new.faults.writes }
-        ensures all { IfOk result (λ count. count ≡ length piece.now) }
+        ensures count { IfOk result (λ count. count ≡ taken_of self.old.piece (length piece.now)) }
+        ensures some { 0 < length piece.now → IfOk result (λ count. 0 < count) }
         ensures exact { self.new ≡ record self.old {
           meanings = if is_ok result
-              then with_written self.old.meanings piece.now
+              then with_written self.old.meanings (take (taken_of self.old.piece (length piece.now)) piece.now)
               else self.old.meanings;
           faults = record self.old.faults { writes = self.new.faults.writes };
           schedule = after_call WorldCall.Write self.old.schedule;
@@ -239,10 +268,11 @@ impl World for MemWorld {
         let Some(name) = &self.made else {
             return Err(Failed);
         };
-        if self.files.append(name.as_str(), piece).is_err() {
+        let count = taken(self.piece, piece.len());
+        if self.files.append(name.as_str(), &piece[..count]).is_err() {
             return Err(raise(&mut self.faults.writes));
         }
-        Ok(piece.len())
+        Ok(count)
     }
 
     fn close(&mut self) -> Result<(), Failed>
@@ -269,39 +299,45 @@ impl World for MemWorld {
     fn print(&mut self, piece: &[u8]) -> Result<usize, Failed>
         ensures ends { Ends (is_due WorldCall.Print self.old.schedule)
             false result self.old.faults.writes self.new.faults.writes }
-        ensures all { IfOk result (λ count. count ≡ length piece.now) }
+        ensures count { IfOk result (λ count. count ≡ taken_of self.old.piece (length piece.now)) }
+        ensures some { 0 < length piece.now → IfOk result (λ count. 0 < count) }
         ensures exact { self.new ≡ record self.old {
           meanings = if is_ok result
-              then with_printed self.old.meanings piece.now
+              then with_printed self.old.meanings (take (taken_of self.old.piece (length piece.now)) piece.now)
               else self.old.meanings;
           faults = record self.old.faults { writes = self.new.faults.writes };
           schedule = after_call WorldCall.Print self.old.schedule;
         } }
     {
-        if self.schedule.pass(WorldCall::Print) || self.printed.extend_from_slice(piece).is_err() {
+        let count = taken(self.piece, piece.len());
+        if self.schedule.pass(WorldCall::Print)
+            || self.printed.extend_from_slice(&piece[..count]).is_err()
+        {
             return Err(raise(&mut self.faults.writes));
         }
-        Ok(piece.len())
+        Ok(count)
     }
 
     fn complain(&mut self, piece: &[u8]) -> Result<usize, Failed>
         ensures ends { Ends (is_due WorldCall.Complain self.old.schedule)
             false result self.old.faults.says self.new.faults.says }
-        ensures all { IfOk result (λ count. count ≡ length piece.now) }
+        ensures count { IfOk result (λ count. count ≡ taken_of self.old.piece (length piece.now)) }
+        ensures some { 0 < length piece.now → IfOk result (λ count. 0 < count) }
         ensures exact { self.new ≡ record self.old {
           meanings = if is_ok result
-              then with_complained self.old.meanings piece.now
+              then with_complained self.old.meanings (take (taken_of self.old.piece (length piece.now)) piece.now)
               else self.old.meanings;
           faults = record self.old.faults { says = self.new.faults.says };
           schedule = after_call WorldCall.Complain self.old.schedule;
         } }
     {
+        let count = taken(self.piece, piece.len());
         if self.schedule.pass(WorldCall::Complain)
-            || self.complained.extend_from_slice(piece).is_err()
+            || self.complained.extend_from_slice(&piece[..count]).is_err()
         {
             return Err(raise(&mut self.faults.says));
         }
-        Ok(piece.len())
+        Ok(count)
     }
 }
 

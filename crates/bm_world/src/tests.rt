@@ -211,3 +211,20 @@ fn a_scheduled_failure_takes_no_bytes(rt: HostRuntime) -> Result<(), Fail> {
     assert!(rt; world.faults() == (1, 2, 0));
     Ok(())
 }
+
+#[test]
+fn a_call_takes_at_most_its_piece(rt: HostRuntime) -> Result<(), Fail> {
+    let alloc = rt.alloc();
+    let mut world = MemWorld::new(alloc);
+    world.put_file("three", b"abc")?;
+    world.piece_at_most(1);
+    let bytes = read_all(alloc, &mut world, "three", 3)?;
+    assert!(rt; bytes.as_slice() == b"abc");
+    assert!(rt; world.print(b"xyz")? == 1);
+    print_all(&mut world, b"yz")?;
+    assert!(rt; world.printed() == b"xyz");
+    write_all_of(&mut world, "made", b"def")?;
+    assert!(rt; world.file("made").is_some_and(|bytes| bytes == b"def"));
+    assert!(rt; world.faults() == (0, 0, 0));
+    Ok(())
+}

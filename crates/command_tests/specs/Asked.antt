@@ -7,7 +7,7 @@ use Rattle.bm_top.specs.Run.{KeepsPromises}
 
 -- a world with no files, and no call that is to fail
 abbrev pub no_files : MemState
-no_files = record { meanings = nothing_yet; faults = no_faults; schedule = [] }
+no_files = record { meanings = nothing_yet; faults = no_faults; schedule = []; piece = None }
 
 -- a world with these two files
 abbrev pub world_with : List ℕ → List ℕ → MemState
