@@ -7,11 +7,10 @@ use Rattle.index_file.specs.declared.damaged.Part.TheVariants as parts
 use Rattle.bm_top.specs.Command.{ask, load, query, check, request_of}
 use Rattle.bm_world.specs.Meanings.{Files}
 use Rattle.well_designed.specs.declared.refusals.Refusal.TheVariants as patterns
-use Rattle.bm_top.specs.Lines.{damaged_line, fault_line, image_too_long_line, pattern_line, write_fault_line, out_of_memory_line}
+use Rattle.bm_top.specs.Lines.{bad_line_line, damaged_line, fault_line, image_too_long_line, pattern_line, too_many_triples_line, write_fault_line, out_of_memory_line}
 use Rattle.bm_top.specs.Standard.{IsVerdict}
 use Rattle.bm_top.specs.Texts.{stored_text}
-use Rattle.bm_top.specs.Verdict.{answered, refused}
-use Rattle.bm_top.specs.steps.VerdictOf.{counting, deciding}
+use Rattle.bm_top.specs.Verdict.{refused}
 
 -- the one command in both forms, a form that is none, and a word too few
 command : request_of (codes "ask" ∷ codes "d" ∷ codes "q" ∷ codes "tsv" ∷ []) ≡ Some (ask (codes "d") (codes "q") Tsv)
@@ -53,14 +52,14 @@ rows_line = refl
 too_long_line : image_too_long_line ≡ codes "limit: the image is longer than 4294967295 bytes\n"
 too_long_line = refl
 
--- a bad line goes before a query that is refused
-bad_line : deciding Json (Some 12) [] (Err (faults.Syntax 0)) ≡ refused 2 (codes "data refused: line " ++ (decimal 12 ++ codes "\n"))
+-- the line of a bad line
+bad_line : bad_line_line 12 ≡ codes "data refused: line " ++ (decimal 12 ++ codes "\n")
 bad_line = refl
 
-bad_query : deciding Tsv None [] (Err (faults.Syntax 9)) ≡ refused 3 (codes "query refused: syntax at byte " ++ (decimal 9 ++ codes "\n"))
+-- each line of a query that is refused
+bad_query : fault_line (faults.Syntax 9) ≡ codes "query refused: syntax at byte " ++ (decimal 9 ++ codes "\n")
 bad_query = refl
 
--- each line of a query that is refused
 unsupported_keyword : fault_line (faults.Unsupported 11 words.Filter) ≡ codes "query refused: unsupported FILTER at byte " ++ (decimal 11 ++ codes "\n")
 unsupported_keyword = refl
 
@@ -106,5 +105,5 @@ cross_place : pattern_line names (patterns.CrossPlace (record { 0 = 0 })) ≡ co
 cross_place = refl
 
 -- a limit of triples
-too_many_triples : counting true (answered (codes "x")) ≡ refused 8 (codes "limit: more than 8388608 triples\n")
+too_many_triples : too_many_triples_line ≡ codes "limit: more than 8388608 triples\n"
 too_many_triples = refl

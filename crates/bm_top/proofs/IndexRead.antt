@@ -15,7 +15,7 @@ use Rattle.bm_top.specs.Verdict.{Verdict, answered}
 use Rattle.bm_top.specs.steps.Ending.{Ends, EndsSo}
 
 -- the index has the numbers of its graph
-numbers_of : (graph : List Triple) (bytes : List ℕ) (index : Stored) → IsIndexOf graph bytes → index ≡ stored_of 1 graph → NumbersGraph graph index.numbering
+pub numbers_of : (graph : List Triple) (bytes : List ℕ) (index : Stored) → IsIndexOf graph bytes → index ≡ stored_of 1 graph → NumbersGraph graph index.numbering
 numbers_of graph bytes index is same = record { ascends = is.storable.ascends; triples = is.storable.triples; numbered = ap (λ (s : Stored). s.numbering) same }
 
 module _ (bytes : List ℕ) (index : Stored) (is_index : IsIndex 1 V1 bytes) (stands : (graph : List Triple) → IsIndexOf graph bytes → index ≡ stored_of 1 graph) where

@@ -1,6 +1,4 @@
-pub mod Counting
-pub mod Deciding
-pub mod Distinct
+pub mod DataIndex
 pub mod Examples
 pub mod IndexRead
 pub mod LinePieces

@@ -19,12 +19,12 @@ use Rattle.result_write.specs.declared.form.Form.{Form}
 use Rattle.result_write.specs.ResultText.{result_text}
 use Rattle.bm_query.specs.Faults.{fault_of}
 use Rattle.bm_query.specs.declared.fault.AnswerFault.{AnswerFault}
-use Rattle.bm_top.specs.declared.decide.Undecided.{Undecided}
-use Rattle.bm_top.specs.declared.decide.Undecided.TheVariants as undecided
+use Rattle.bm_top.specs.declared.undecided.Undecided.{Undecided}
+use Rattle.bm_top.specs.declared.undecided.Undecided.TheVariants as undecided
 use Rattle.bm_top.specs.Lines.{fault_line, pattern_line, query_line}
 use Rattle.bm_top.specs.Standard.{IsAnswerOver, IsAnswerOrRefusal}
 use Rattle.bm_top.specs.Verdict.{Verdict, answered, refused}
-use Rattle.bm_top.specs.steps.Decide.{from_query}
+use Rattle.bm_top.specs.steps.Undecided.{from_query}
 use Rattle.bm_top.specs.steps.Ending.{Says}
 use Rattle.bm_top.specs.steps.Over.{NamesFault}
 use Rattle.bm_top.specs.steps.VerdictOf.{accepting, answering}

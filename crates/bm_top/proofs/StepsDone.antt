@@ -14,16 +14,14 @@ use Rattle.bm_world.specs.World.{AppendsAll, NothingIsMade, RisesOnErr, Step, Ro
 use Rattle.bm_world.specs.declared.reading.ReadEnd.{ReadEnd}
 use Rattle.bm_world.specs.declared.reading.ReadEnd.TheVariants as read_ends
 use Rattle.bm_world.proofs.Steps.{rose_later}
-use Rattle.bm_top.specs.declared.decide.Undecided.{Undecided}
-use Rattle.bm_top.specs.declared.decide.Undecided.TheVariants as undecided
+use Rattle.bm_top.specs.declared.undecided.Undecided.{Undecided}
+use Rattle.bm_top.specs.declared.undecided.Undecided.TheVariants as undecided
 use Rattle.bm_top.specs.declared.ending.Ending.{Ending}
 use Rattle.bm_top.specs.declared.ending.Ending.TheVariants as ends
-use Rattle.bm_top.specs.steps.Decide.{IsDecided}
 use Rattle.bm_top.specs.Lines.{read_fault_line, limit_line}
 use Rattle.bm_top.specs.Run.{OpensInTurn}
 use Rattle.bm_top.specs.Standard.{IsDecidedBy, missing, read as read_whole}
 use Rattle.bm_top.specs.Verdict.{Verdict, answered, refused, stores}
-use Rattle.bm_top.specs.steps.VerdictOf.{decided}
 use Rattle.bm_top.specs.steps.Printing.{after_writing}
 use Rattle.result_write.specs.declared.form.Form.{Form}
 use Rattle.result_write.specs.declared.form.WriteEnd.{WriteEnd}
@@ -73,14 +71,6 @@ EndsSo-undecided undecided.TooManyTriples verdict m is = (is, refl)
 EndsSo-undecided undecided.ImageTooLong verdict m is = (is, refl)
 EndsSo-undecided (undecided.Query refusal) verdict m is = (is, refl)
 EndsSo-undecided undecided.Memory verdict m is = EndsSo-memory verdict m m refl
-
--- what is decided of data and a query says what the verdict is
-pub Says-decided : (form : Form) (bytes text : List ℕ) (why : Undecided) → IsDecided bytes text (Err why) → Says why (decided form bytes text)
-Says-decided form bytes text (undecided.BadLine line) is = is form
-Says-decided form bytes text undecided.TooManyTriples is = is form
-Says-decided form bytes text undecided.ImageTooLong is = absurd is
-Says-decided form bytes text (undecided.Query refusal) is = is form
-Says-decided form bytes text undecided.Memory is = tt
 
 -- a text was printed, which takes no memory
 pub EndsSo-printed : (text : List ℕ) (printed : Result (Unit {0}) Failed) (m n : Meanings) → AppendsAll with_printed text printed m n → EndsSo (answered text) (after_printing printed) m n

@@ -1,120 +1,88 @@
--- What is stored of data: the graph of its triples is one of RDF, and its index is the image of their numbering.
-use Rattle.std.proofs.Common.{◌≡◌, ◌⊎◌, inl, inr, ℕ, ◌<◌, ◌≤◌, ◌^◌, List, length, All, get_or, Some, None, Result, Ok, Err, refl, sym, ap, subst, ◌∙◌, arith}
-use Rattle.std.specs.List.Sorted.{IsStrictlySortedBy}
-use Rattle.std.proofs.lemmas.Bool.{cases_lt}
-use Rattle.std.proofs.lemmas.List.Elements.{All-contains, Contains-get_or}
+-- The index of data, by what each part said of it.
+use Rattle.std.proofs.Common.{◌≡◌, ℕ, ◌<◌, ◌≤◌, ◌^◌, List, length, None, Ok, Err, refl, sym, ap, subst, ◌∙◌, arith}
 use Rattle.bm_term.specs.declared.triple.Triple.{Triple}
-use Rattle.bm_term.specs.Triple.{IsRdfTriple}
-use Rattle.bm_term.specs.Graph.{triple_cmp, graph_of}
-use Rattle.bm_term.proofs.Sets.{IsSetOf-set_of}
-use Rattle.bm_term.proofs.TripleOrder.{triple_cmp-total, triple_cmp-exact}
 use Rattle.nt_read.specs.declared.lines.FeedFault.{FeedFault}
 use Rattle.nt_read.specs.declared.lines.FeedFault.TheVariants as feed_faults
-use Rattle.nt_read.specs.scanning.Lines.{first_bad, lines_of, triples_of}
-use Rattle.nt_read.proofs.TakenTriples.{triples_of-rdf}
+use Rattle.nt_read.specs.scanning.Lines.{first_bad}
 use Rattle.run_rows.specs.declared.form.RowForm.TheVariants.{V1}
 use Rattle.term_numbers.specs.Limits.{max_triples}
 use Rattle.term_numbers.specs.Numbering.{Numbering, numbering_of}
 use Rattle.term_numbers.specs.declared.fault.NumberFault.{NumberFault}
 use Rattle.term_numbers.specs.declared.fault.NumberFault.TheVariants as number_faults
-use Rattle.index_file.specs.Conditions.{IsImageOf}
 use Rattle.index_file.specs.Image.{image_of}
-use Rattle.index_file.specs.Version.{NumbersGraph, numbering_bytes}
+use Rattle.index_file.specs.Version.{numbering_bytes}
 use Rattle.index_image.specs.declared.fault.ImageFault.{ImageFault}
 use Rattle.index_image.specs.declared.fault.ImageFault.TheVariants as image_faults
-use Rattle.bm_top.specs.declared.decide.Undecided.{Undecided}
+use Rattle.bm_top.specs.declared.undecided.Undecided.{Undecided}
+use Rattle.bm_top.specs.declared.undecided.Undecided.TheVariants as undecided
 use Rattle.bm_top.specs.declared.store.DataIndex.{DataIndex}
-use Rattle.bm_top.specs.Lines.{max_index_bytes, image_too_long_line}
-use Rattle.bm_top.specs.Standard.{IsDecidedByData, IsGraphOf, IsIndexOf, IsStoredOrTooLong, image_too_long, stored}
+use Rattle.bm_top.specs.Lines.{bad_line_line}
+use Rattle.bm_top.specs.Standard.{IsDecidedByData, IsStored}
 use Rattle.bm_top.specs.Texts.{stored_text}
 use Rattle.bm_top.specs.Verdict.{Verdict, refused, stores}
 use Rattle.bm_top.specs.steps.Data.{IsDataOf}
-use Rattle.bm_top.specs.steps.Decide.{from_data, from_image, from_numbers}
+use Rattle.bm_top.specs.steps.Undecided.{from_data, from_image, from_numbers}
 use Rattle.bm_top.specs.steps.Ending.{Says}
-use Rattle.bm_top.specs.steps.Store.{IsDataIndex, IsOfLoading}
+use Rattle.bm_top.specs.steps.Store.{HasNoIndex, IsIndexFor}
 use Rattle.bm_top.specs.steps.VerdictOf.{graph_in}
-use Rattle.bm_top.proofs.ReadData.{graph-read, read-graph}
-use Rattle.bm_top.proofs.Verdicts.{HasOne, bad_then, good_then, many_then}
-
--- the graph that is read is one of RDF triples, and ascends
-pub graph_in-rdf : (bytes : List ℕ) → All IsRdfTriple (graph_in bytes)
-graph_in-rdf bytes k d lt =
-    let triples = triples_of (lines_of bytes) in
-    let set = (IsSetOf-set_of triple_cmp triple_cmp-total triple_cmp-exact triples (graph_in bytes)).1 refl in
-    All-contains IsRdfTriple triples (get_or (graph_in bytes) k d) (triples_of-rdf (lines_of bytes)) ((set.same (get_or (graph_in bytes) k d)).0 (Contains-get_or (graph_in bytes) k d lt))
-
-pub graph_in-ascends : (bytes : List ℕ) → IsStrictlySortedBy triple_cmp (graph_in bytes)
-graph_in-ascends bytes = ((IsSetOf-set_of triple_cmp triple_cmp-total triple_cmp-exact (triples_of (lines_of bytes)) (graph_in bytes)).1 refl).ascends
-
-pub NumbersGraph-read : (bytes : List ℕ) (numbers : Numbering) → numbers ≡ numbering_of (graph_in bytes) → NumbersGraph (graph_in bytes) numbers
-NumbersGraph-read bytes numbers is = record { ascends = graph_in-ascends bytes; triples = graph_in-rdf bytes; numbered = is }
-
--- the index of a graph of data is written, or is too long
-some_stored : (name bytes : List ℕ) (graph : List Triple) → IsGraphOf bytes graph → length graph ≤ max_triples
-    → (max_index_bytes < length (image_of 1 V1 graph)) ⊎ (length (image_of 1 V1 graph) ≤ max_index_bytes) → HasOne (IsStoredOrTooLong name graph)
-some_stored name bytes graph is few (inl long) = (refused 8 image_too_long_line, image_too_long long refl)
-some_stored name bytes graph is few (inr short) =
-    let same = (graph-read bytes graph is).are in
-    let image : IsIndexOf graph (image_of 1 V1 graph) = record {
-      storable = record {
-        ascends = subst (IsStrictlySortedBy triple_cmp) (sym same) (graph_in-ascends bytes);
-        triples = subst (All IsRdfTriple) (sym same) (graph_in-rdf bytes);
-        few = few;
-        short = omega (arith, short);
-      };
-      spelled = refl;
-    } in
-    (stores name (image_of 1 V1 graph) (stored_text (length graph) (length (image_of 1 V1 graph))), stored (image_of 1 V1 graph) image refl)
-
-pub stored_some : (name bytes : List ℕ) (graph : List Triple) → IsGraphOf bytes graph → length graph ≤ max_triples → HasOne (IsStoredOrTooLong name graph)
-stored_some name bytes graph is few = some_stored name bytes graph is few (cases_lt max_index_bytes (length (image_of 1 V1 graph)))
+use Rattle.bm_top.proofs.DataIndex.{graph_in-ascends, graph_in-rdf}
+use Rattle.bm_top.proofs.ReadData.{bad-read, read-bad, read-graph}
+use Rattle.bm_top.proofs.Verdicts.{bad_then, good_then, long_then, many_then}
 
 -- the data was refused
-pub unread_data : (bytes : List ℕ) (fault : FeedFault) → IsDataOf bytes (Err fault) → IsDataIndex bytes (Err (from_data fault))
-unread_data bytes (feed_faults.NotNTriples line) read = λ name verdict is. bad_then bytes (IsStoredOrTooLong name) line verdict read is
-unread_data bytes feed_faults.Memory read = λ name verdict is. tt
+pub unread_data : (bytes : List ℕ) (fault : FeedFault) → IsDataOf bytes (Err fault) → HasNoIndex bytes (from_data fault)
+unread_data bytes (feed_faults.NotNTriples line) read = read-bad bytes line read
+unread_data bytes feed_faults.Memory read = tt
 
 -- there were too many triples
-pub many_triples : (bytes : List ℕ) (fault : NumberFault) → first_bad bytes ≡ None → (fault ≡ number_faults.TooManyTriples → max_triples < length (graph_in bytes)) → IsDataIndex bytes (Err (from_numbers fault))
-many_triples bytes number_faults.TooManyTriples none many = λ name verdict is. many_then bytes (IsStoredOrTooLong name) (graph_in bytes) verdict (read-graph bytes none) (many refl) is
-many_triples bytes number_faults.Memory none many = λ name verdict is. tt
-
-module _ (bytes : List ℕ) (none : first_bad bytes ≡ None) (few : length (graph_in bytes) ≤ max_triples) (name : List ℕ) (verdict : Verdict) (is : IsDecidedByData bytes (IsStoredOrTooLong name) verdict) where
-  next : IsStoredOrTooLong name (graph_in bytes) verdict
-  next = good_then bytes (IsStoredOrTooLong name) (graph_in bytes) verdict (read-graph bytes none) few is
-
-  long_then : IsStoredOrTooLong name (graph_in bytes) verdict → 2 ^ 32 ≤ length (image_of 1 V1 (graph_in bytes)) → verdict ≡ refused 8 image_too_long_line
-  long_then (image_too_long long same) over = same
-  long_then (stored index image same) over = absurd (omega (arith, image.storable.short, over))
-
-  stored_then : IsStoredOrTooLong name (graph_in bytes) verdict → length (image_of 1 V1 (graph_in bytes)) < 2 ^ 32
-      → verdict ≡ stores name (image_of 1 V1 (graph_in bytes)) (stored_text (length (graph_in bytes)) (length (image_of 1 V1 (graph_in bytes))))
-  stored_then (image_too_long long same) short = absurd (omega (arith, short, long))
-  stored_then (stored index image same) short = same ∙ ap (λ i. stores name i (stored_text (length (graph_in bytes)) (length i))) image.spelled
-
-  pub image_is_long : 2 ^ 32 ≤ length (image_of 1 V1 (graph_in bytes)) → verdict ≡ refused 8 image_too_long_line
-  image_is_long over = long_then next over
-
-  pub image_is_stored : length (image_of 1 V1 (graph_in bytes)) < 2 ^ 32
-      → verdict ≡ stores name (image_of 1 V1 (graph_in bytes)) (stored_text (length (graph_in bytes)) (length (image_of 1 V1 (graph_in bytes))))
-  image_is_stored short = stored_then next short
+pub many_triples : (bytes : List ℕ) (fault : NumberFault) → first_bad bytes ≡ None → (fault ≡ number_faults.TooManyTriples → max_triples < length (graph_in bytes)) → HasNoIndex bytes (from_numbers fault)
+many_triples bytes number_faults.TooManyTriples none many = record { graph = graph_in bytes; is_graph = read-graph bytes none; many = many refl }
+many_triples bytes number_faults.Memory none many = tt
 
 -- the bytes of the numbering of a graph are its image
-pub numbered_image : (graph : List Triple) (numbers : Numbering) → numbers ≡ numbering_of graph → numbering_bytes V1 numbers ≡ image_of 1 V1 graph
+numbered_image : (graph : List Triple) (numbers : Numbering) → numbers ≡ numbering_of graph → numbering_bytes V1 numbers ≡ image_of 1 V1 graph
 numbered_image graph numbers is = ap (numbering_bytes V1) is
 
 -- the image is too long
 pub long_image : (bytes : List ℕ) (numbers : Numbering) (fault : ImageFault) → first_bad bytes ≡ None → length (graph_in bytes) ≤ max_triples → numbers ≡ numbering_of (graph_in bytes)
-    → (fault ≡ image_faults.TooLong → 2 ^ 32 ≤ length (numbering_bytes V1 numbers)) → IsDataIndex bytes (Err (from_image fault))
-long_image bytes numbers image_faults.TooLong none few is long = λ name verdict decided.
-    image_is_long bytes none few name verdict decided (subst (λ (image : List ℕ). 2 ^ 32 ≤ length image) (numbered_image (graph_in bytes) numbers is) (long refl))
-long_image bytes numbers image_faults.Memory none few is long = λ name verdict decided. tt
+    → (fault ≡ image_faults.TooLong → 2 ^ 32 ≤ length (numbering_bytes V1 numbers)) → HasNoIndex bytes (from_image fault)
+long_image bytes numbers image_faults.TooLong none few is long =
+    let over : 2 ^ 32 ≤ length (image_of 1 V1 (graph_in bytes)) = subst (λ (image : List ℕ). 2 ^ 32 ≤ length image) (numbered_image (graph_in bytes) numbers is) (long refl) in
+    record { graph = graph_in bytes; is_graph = read-graph bytes none; few = few; long = omega (arith, over) }
+long_image bytes numbers image_faults.Memory none few is long = tt
 
 -- the image is made
-pub made_image : (bytes : List ℕ) (numbers : Numbering) (index : DataIndex) → first_bad bytes ≡ None → length (graph_in bytes) ≤ max_triples → numbers ≡ numbering_of (graph_in bytes)
-    → index.bytes.items ≡ numbering_bytes V1 numbers → length index.bytes.items < 2 ^ 32 → index.triples ≡ length (graph_in bytes) → IsDataIndex bytes (Ok index)
-made_image bytes numbers index none few is made short count = λ name verdict decided.
-    let image : index.bytes.items ≡ image_of 1 V1 (graph_in bytes) = made ∙ numbered_image (graph_in bytes) numbers is in
-    image_is_stored bytes none few name verdict decided (subst (λ (i : List ℕ). length i < 2 ^ 32) image short)
-    ∙ ap (λ i. stores name i (stored_text (length (graph_in bytes)) (length i))) (sym image)
-    ∙ ap (λ n. stores name index.bytes.items (stored_text n (length index.bytes.items))) (sym count)
+pub made_image : (bytes : List ℕ) (numbers : Numbering) (made : DataIndex) → first_bad bytes ≡ None → length (graph_in bytes) ≤ max_triples → numbers ≡ numbering_of (graph_in bytes)
+    → made.bytes.items ≡ numbering_bytes V1 numbers → length made.bytes.items < 2 ^ 32 → made.triples ≡ length (graph_in bytes) → IsIndexFor bytes made
+made_image bytes numbers made none few is spelled short count =
+    let image : made.bytes.items ≡ image_of 1 V1 (graph_in bytes) = spelled ∙ numbered_image (graph_in bytes) numbers is in
+    record {
+      graph = graph_in bytes;
+      is_graph = read-graph bytes none;
+      is_index = record {
+        storable = record {
+          ascends = graph_in-ascends bytes;
+          triples = graph_in-rdf bytes;
+          few = few;
+          short = subst (λ (i : List ℕ). length i < 2 ^ 32) image short;
+        };
+        spelled = image;
+      };
+      count = count;
+    }
+
+-- what data without an index decides
+pub Says-no_index : (bytes : List ℕ) (Next : List Triple → List ℕ → Verdict → Type 0) (why : Undecided) (verdict : Verdict) → HasNoIndex bytes why → IsDecidedByData bytes Next verdict → Says why verdict
+Says-no_index bytes Next (undecided.BadLine line) verdict has is =
+    let (number, found, same) = bad-read bytes (bad_line_line line) has in
+    bad_then bytes Next number verdict found is ∙ ap (refused 2) (sym same)
+Says-no_index bytes Next undecided.TooManyTriples verdict has is = many_then bytes Next has.graph verdict has.is_graph has.many is
+Says-no_index bytes Next undecided.ImageTooLong verdict has is = long_then bytes Next has.graph verdict has.is_graph has.few has.long is
+Says-no_index bytes Next (undecided.Query refusal) verdict has is = absurd has
+Says-no_index bytes Next undecided.Memory verdict has is = tt
+
+-- what is stored where there is one
+pub is_stored : (bytes name : List ℕ) (made : DataIndex) (verdict : Verdict) → IsIndexFor bytes made → IsDecidedByData bytes (IsStored name) verdict → verdict ≡ stores name made.bytes.items (stored_text made.triples (length made.bytes.items))
+is_stored bytes name made verdict has is =
+    good_then bytes (IsStored name) has.graph made.bytes.items verdict has.is_graph has.is_index is
+    ∙ ap (λ n. stores name made.bytes.items (stored_text n (length made.bytes.items))) (sym has.count)

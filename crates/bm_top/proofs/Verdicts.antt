@@ -18,11 +18,11 @@ use Rattle.index_file.proofs.DecidedLawsOfParts.{first_failing_is_one, index_has
 use Rattle.index_file.proofs.ImageLaws.{image_of_one, index_exactly}
 use Rattle.index_file.proofs.WritingLaws.{IsIndex-image_of}
 use Rattle.bm_world.specs.Meanings.{Files}
-use Rattle.bm_top.specs.Lines.{max_index_bytes, bad_line_line, damaged_line, limit_line, read_fault_line, too_many_triples_line}
-use Rattle.bm_top.specs.Standard.{HasTooManyTriples, HoldBytes, IsAnswerOrRefusal, IsBadData, IsCounted, IsDecidedBy, missing, too_long, read, IsDecidedByData, bad_data, too_many, good_data, IsDecidedByIndex, damaged, good_index, IsGraphOf, IsIndexOf, IsStoredOrTooLong, image_too_long, stored}
-use Rattle.bm_top.specs.Texts.{stored_text}
-use Rattle.bm_top.specs.Verdict.{Verdict, answered, refused, stores}
+use Rattle.bm_top.specs.Lines.{max_index_bytes, bad_line_line, damaged_line, image_too_long_line, limit_line, read_fault_line, too_many_triples_line}
+use Rattle.bm_top.specs.Standard.{HasTooManyTriples, HoldBytes, IsAnswerOrRefusal, IsBadData, IsCounted, IsDecidedBy, missing, too_long, read, HasTooLongImage, IsDecidedByData, bad_data, too_many, too_long_image, good_data, IsDecidedByIndex, damaged, good_index, IsGraphOf, IsIndexOf, IsStored}
+use Rattle.bm_top.specs.Verdict.{Verdict, refused}
 use Rattle.bm_top.specs.steps.VerdictOf.{answering, graph_in}
+use Rattle.bm_top.proofs.DataIndex.{index-read}
 use Rattle.bm_top.proofs.ReadData.{IsRead, graph-read, read-graph, graph-one, bad-read, read-bad, is-answering, answering-is}
 
 -- there is such a verdict
@@ -82,7 +82,7 @@ module _ (files : Files) (name : List ℕ) (limit : ℕ) (Next : List ℕ → Ve
 no_bad_line : (bad : Option ℕ) (number : ℕ) → bad ≡ None → bad ≡ Some number → ⊥
 no_bad_line bad number none some = absurd (cc)
 
-module _ (bytes : List ℕ) (Next : List Triple → Verdict → Type 0) where
+module _ (bytes : List ℕ) (Next : List Triple → List ℕ → Verdict → Type 0) where
   -- data with a bad line
   pub bad_then : (number : ℕ) (verdict : Verdict) → first_bad bytes ≡ Some number → IsDecidedByData bytes Next verdict → verdict ≡ refused 2 (bad_line_line number)
   bad_then number verdict found (bad_data line is same) =
@@ -90,43 +90,71 @@ module _ (bytes : List ℕ) (Next : List Triple → Verdict → Type 0) where
       let e : other ≡ number = cc in
       same ∙ ap (refused 2) is_line ∙ ap (λ n. refused 2 (bad_line_line n)) e
   bad_then number verdict found (too_many is same) = absurd (no_bad_line (first_bad bytes) number (graph-read bytes is.graph is.is_graph).none found)
-  bad_then number verdict found (good_data graph is few next) = absurd (no_bad_line (first_bad bytes) number (graph-read bytes graph is).none found)
+  bad_then number verdict found (too_long_image is same) = absurd (no_bad_line (first_bad bytes) number (graph-read bytes is.graph is.is_graph).none found)
+  bad_then number verdict found (good_data graph index is image next) = absurd (no_bad_line (first_bad bytes) number (graph-read bytes graph is).none found)
 
   -- data with too many triples
   pub many_then : (graph : List Triple) (verdict : Verdict) → IsGraphOf bytes graph → max_triples < length graph → IsDecidedByData bytes Next verdict → verdict ≡ refused 8 too_many_triples_line
   many_then graph verdict is_graph many (bad_data line is same) =
       let (other, also, is_line) = bad-read bytes line is in absurd (no_bad_line (first_bad bytes) other (graph-read bytes graph is_graph).none also)
   many_then graph verdict is_graph many (too_many is same) = same
-  many_then graph verdict is_graph many (good_data other also few next) =
-      let e = graph-one bytes graph other is_graph also in absurd (omega (arith, ap length e))
+  many_then graph verdict is_graph many (too_long_image is same) =
+      let e = graph-one bytes graph is.graph is_graph is.is_graph in absurd (omega (arith, ap length e, is.few))
+  many_then graph verdict is_graph many (good_data other index also image next) =
+      let e = graph-one bytes graph other is_graph also in absurd (omega (arith, ap length e, image.storable.few))
+
+  -- data whose index would be too long
+  pub long_then : (graph : List Triple) (verdict : Verdict) → IsGraphOf bytes graph → length graph ≤ max_triples → max_index_bytes < length (image_of 1 V1 graph) → IsDecidedByData bytes Next verdict
+      → verdict ≡ refused 8 image_too_long_line
+  long_then graph verdict is_graph few long (bad_data line is same) =
+      let (other, also, is_line) = bad-read bytes line is in absurd (no_bad_line (first_bad bytes) other (graph-read bytes graph is_graph).none also)
+  long_then graph verdict is_graph few long (too_many is same) =
+      let e = graph-one bytes graph is.graph is_graph is.is_graph in absurd (omega (arith, ap length e, is.many))
+  long_then graph verdict is_graph few long (too_long_image is same) = same
+  long_then graph verdict is_graph few long (good_data other index also image next) =
+      let e = ap (λ g. length (image_of 1 V1 g)) (graph-one bytes graph other is_graph also) in absurd (omega (arith, e, image.storable.short))
 
   -- data that is taken
-  pub good_then : (graph : List Triple) (verdict : Verdict) → IsGraphOf bytes graph → length graph ≤ max_triples → IsDecidedByData bytes Next verdict → Next graph verdict
-  good_then graph verdict is_graph few (bad_data line is same) =
+  pub good_then : (graph : List Triple) (index : List ℕ) (verdict : Verdict) → IsGraphOf bytes graph → IsIndexOf graph index → IsDecidedByData bytes Next verdict → Next graph index verdict
+  good_then graph index verdict is_graph image (bad_data line is same) =
       let (other, also, is_line) = bad-read bytes line is in absurd (no_bad_line (first_bad bytes) other (graph-read bytes graph is_graph).none also)
-  good_then graph verdict is_graph few (too_many is same) =
-      let e = graph-one bytes graph is.graph is_graph is.is_graph in absurd (omega (arith, ap length e, is.many))
-  good_then graph verdict is_graph few (good_data other also within next) =
-      let P : List Triple → Type 0 = λ g. Next g verdict in subst P (sym (graph-one bytes graph other is_graph also)) next
+  good_then graph index verdict is_graph image (too_many is same) =
+      let e = graph-one bytes graph is.graph is_graph is.is_graph in absurd (omega (arith, ap length e, is.many, image.storable.few))
+  good_then graph index verdict is_graph image (too_long_image is same) =
+      let e = ap (λ g. length (image_of 1 V1 g)) (graph-one bytes graph is.graph is_graph is.is_graph) in absurd (omega (arith, e, is.long, image.storable.short))
+  good_then graph index verdict is_graph image (good_data other second also is_second next) =
+      let e = graph-one bytes graph other is_graph also in
+      let same : second ≡ index = is_second.spelled ∙ ap (image_of 1 V1) (sym e) ∙ sym image.spelled in
+      let P : List Triple → Type 0 = λ g. Next g second verdict in
+      let Q : List ℕ → Type 0 = λ i. Next graph i verdict in
+      subst Q same (subst P (sym e) next)
 
-  pub data_one : ((graph : List Triple) → One (Next graph)) → One (IsDecidedByData bytes Next)
+  pub data_one : ((graph : List Triple) (index : List ℕ) → One (Next graph index)) → One (IsDecidedByData bytes Next)
   data_one after verdict other (bad_data line is same) also =
       let (number, found, is_line) = bad-read bytes line is in
       same ∙ ap (refused 2) is_line ∙ sym (bad_then number other found also)
   data_one after verdict other (too_many is same) also = same ∙ sym (many_then is.graph other is.is_graph is.many also)
-  data_one after verdict other (good_data graph is few next) also = after graph verdict other next (good_then graph other is few also)
+  data_one after verdict other (too_long_image is same) also = same ∙ sym (long_then is.graph other is.is_graph is.few is.long also)
+  data_one after verdict other (good_data graph index is image next) also = after graph index verdict other next (good_then graph index other is image also)
 
-  some_counted : first_bad bytes ≡ None → ((graph : List Triple) → IsGraphOf bytes graph → length graph ≤ max_triples → HasOne (Next graph))
+  some_image : first_bad bytes ≡ None → length (graph_in bytes) ≤ max_triples → ((graph : List Triple) (index : List ℕ) → HasOne (Next graph index))
+      → (max_index_bytes < length (image_of 1 V1 (graph_in bytes))) ⊎ (length (image_of 1 V1 (graph_in bytes)) ≤ max_index_bytes) → HasOne (IsDecidedByData bytes Next)
+  some_image none few after (inl long) =
+      (refused 8 image_too_long_line, too_long_image (record { graph = graph_in bytes; is_graph = read-graph bytes none; few = few; long = long }) refl)
+  some_image none few after (inr short) =
+      let next = after (graph_in bytes) (image_of 1 V1 (graph_in bytes)) in
+      (next.0, good_data (graph_in bytes) (image_of 1 V1 (graph_in bytes)) (read-graph bytes none) (index-read bytes few short) next.1)
+
+  some_counted : first_bad bytes ≡ None → ((graph : List Triple) (index : List ℕ) → HasOne (Next graph index))
       → (max_triples < length (graph_in bytes)) ⊎ (length (graph_in bytes) ≤ max_triples) → HasOne (IsDecidedByData bytes Next)
   some_counted none after (inl many) = (refused 8 too_many_triples_line, too_many (record { graph = graph_in bytes; is_graph = read-graph bytes none; many = many }) refl)
-  some_counted none after (inr few) =
-      let next = after (graph_in bytes) (read-graph bytes none) few in (next.0, good_data (graph_in bytes) (read-graph bytes none) few next.1)
+  some_counted none after (inr few) = some_image none few after (cases_lt max_index_bytes (length (image_of 1 V1 (graph_in bytes))))
 
-  some_lines : (bad : Option ℕ) → first_bad bytes ≡ bad → ((graph : List Triple) → IsGraphOf bytes graph → length graph ≤ max_triples → HasOne (Next graph)) → HasOne (IsDecidedByData bytes Next)
+  some_lines : (bad : Option ℕ) → first_bad bytes ≡ bad → ((graph : List Triple) (index : List ℕ) → HasOne (Next graph index)) → HasOne (IsDecidedByData bytes Next)
   some_lines (Some number) found after = (refused 2 (bad_line_line number), bad_data (bad_line_line number) (read-bad bytes number found) refl)
   some_lines None found after = some_counted found after (cases_lt max_triples (length (graph_in bytes)))
 
-  pub data_some : ((graph : List Triple) → IsGraphOf bytes graph → length graph ≤ max_triples → HasOne (Next graph)) → HasOne (IsDecidedByData bytes Next)
+  pub data_some : ((graph : List Triple) (index : List ℕ) → HasOne (Next graph index)) → HasOne (IsDecidedByData bytes Next)
   data_some after = some_lines (first_bad bytes) refl after
 
 -- an image meets the conditions
@@ -165,14 +193,9 @@ answer_one form text graph verdict other is also = is-answering form text graph 
 pub answer_some : (form : Form) (text : List ℕ) (graph : List Triple) → HasOne (IsAnswerOrRefusal form text graph)
 answer_some form text graph = (answering form graph (query_reading text), answering-is form text graph)
 
--- an index file that is written
-pub stored_one : (name : List ℕ) (graph : List Triple) → One (IsStoredOrTooLong name graph)
-stored_one name graph verdict other (image_too_long long same) (image_too_long over also) = same ∙ sym also
-stored_one name graph verdict other (image_too_long long same) (stored index is also) = absurd (omega (arith, is.storable.short, long))
-stored_one name graph verdict other (stored index is same) (image_too_long long also) = absurd (omega (arith, is.storable.short, long))
-stored_one name graph verdict other (stored index is same) (stored second is_second also) =
-    let e : index ≡ second = is.spelled ∙ sym is_second.spelled in
-    same ∙ ap (λ bytes. stores name bytes (stored_text (length graph) (length bytes))) e ∙ sym also
+-- an index file that is written, and counts that are printed
+pub stored_one : (name : List ℕ) (graph : List Triple) (index : List ℕ) → One (IsStored name graph index)
+stored_one name graph index verdict other is also = is ∙ sym also
 
 pub counted_one : (graph : List Triple) → One (IsCounted graph)
 counted_one graph verdict other is also = is ∙ sym also

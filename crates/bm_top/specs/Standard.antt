@@ -47,11 +47,12 @@ pub record IsAnswerOver (form : Form) (text : List ℕ) (graph : List Triple) (p
   pub accepted : IsAccepted query.pattern
   pub is_text : printed ≡ result_text form query (answers_to query graph)
 
--- and over the set of triples of the data, which keeps its limit
+-- and over the set of triples of the data, which keeps the limits of a graph and of its index
 pub record IsAnswer (form : Form) (bytes text printed : List ℕ) : Type 0 where
   pub graph : List Triple
   pub is_graph : IsGraphOf bytes graph
   pub few : length graph ≤ max_triples
+  pub short : length (image_of 1 V1 graph) ≤ max_index_bytes
   pub is_answer : IsAnswerOver form text graph printed
 
 -- the bytes are the index file of a graph
@@ -82,6 +83,13 @@ pub record HasTooManyTriples (bytes : List ℕ) : Type 0 where
   pub is_graph : IsGraphOf bytes graph
   pub many : max_triples < length graph
 
+-- it keeps that limit, and its index would be too long
+pub record HasTooLongImage (bytes : List ℕ) : Type 0 where
+  pub graph : List Triple
+  pub is_graph : IsGraphOf bytes graph
+  pub few : length graph ≤ max_triples
+  pub long : max_index_bytes < length (image_of 1 V1 graph)
+
 -- The verdict of a command: the first step in its order that has a condition that holds.
 
 -- a file is read: it has to be there, and to keep its limit; its bytes decide with what is next
@@ -91,11 +99,14 @@ pub data IsDecidedBy (files : Files) (name : List ℕ) (limit : ℕ) (Next : Lis
       → IsDecidedBy files name limit Next verdict
   read : (bytes : List ℕ) → get files name ≡ Some bytes → length bytes ≤ limit → Next bytes verdict → IsDecidedBy files name limit Next verdict
 
--- the data has a bad line, or too many triples; otherwise its graph decides with what is next
-pub data IsDecidedByData (bytes : List ℕ) (Next : List Triple → Verdict → Type 0) (verdict : Verdict) : Type 0 where
+-- the data has a bad line, or too many triples, or its index would be too long; otherwise its graph and the index of it
+-- decide with what is next
+pub data IsDecidedByData (bytes : List ℕ) (Next : List Triple → List ℕ → Verdict → Type 0) (verdict : Verdict) : Type 0 where
   bad_data : (line : List ℕ) → IsBadData bytes line → verdict ≡ refused 2 line → IsDecidedByData bytes Next verdict
   too_many : HasTooManyTriples bytes → verdict ≡ refused 8 too_many_triples_line → IsDecidedByData bytes Next verdict
-  good_data : (graph : List Triple) → IsGraphOf bytes graph → length graph ≤ max_triples → Next graph verdict → IsDecidedByData bytes Next verdict
+  too_long_image : HasTooLongImage bytes → verdict ≡ refused 8 image_too_long_line → IsDecidedByData bytes Next verdict
+  good_data : (graph : List Triple) (index : List ℕ) → IsGraphOf bytes graph → IsIndexOf graph index → Next graph index verdict
+      → IsDecidedByData bytes Next verdict
 
 -- the first part that fails of an index that is none; otherwise the graph of the index decides with what is next
 pub data IsDecidedByIndex (bytes : List ℕ) (Next : List Triple → Verdict → Type 0) (verdict : Verdict) : Type 0 where
@@ -107,26 +118,24 @@ pub data IsAnswerOrRefusal (form : Form) (text : List ℕ) (graph : List Triple)
   bad_query : (line : List ℕ) → IsRefusedText text line → verdict ≡ refused 3 line → IsAnswerOrRefusal form text graph verdict
   answer : (printed : List ℕ) → IsAnswerOver form text graph printed → verdict ≡ answered printed → IsAnswerOrRefusal form text graph verdict
 
--- the index file of a graph is too long, or it is written, and how long it is is printed
-pub data IsStoredOrTooLong (name : List ℕ) (graph : List Triple) (verdict : Verdict) : Type 0 where
-  image_too_long : max_index_bytes < length (image_of 1 V1 graph) → verdict ≡ refused 8 image_too_long_line → IsStoredOrTooLong name graph verdict
-  stored : (index : List ℕ) → IsIndexOf graph index → verdict ≡ stores name index (stored_text (length graph) (length index))
-      → IsStoredOrTooLong name graph verdict
+-- the index of a graph is written, and how long it is is printed
+abbrev pub IsStored : List ℕ → List Triple → List ℕ → Verdict → Type 0
+IsStored name graph index verdict = verdict ≡ stores name index (stored_text (length graph) (length index))
 
 -- how many of each the index of a graph has is printed
 abbrev pub IsCounted : List Triple → Verdict → Type 0
 IsCounted graph verdict = verdict ≡ answered (counts_text (counts_of (stored_of 1 graph)))
 
--- `ask DATA QUERY FORM`: DATA is read, then QUERY, and then both are looked at
+-- `ask DATA QUERY FORM`: DATA is read, then QUERY; then the data is looked at, and then the query
 abbrev pub IsAskVerdict : Files → List ℕ → List ℕ → Form → Verdict → Type 0
 IsAskVerdict files data_name query_name form verdict =
     IsDecidedBy files data_name max_data_bytes
-    (λ bytes. IsDecidedBy files query_name max_query_bytes (λ text. IsDecidedByData bytes (IsAnswerOrRefusal form text))) verdict
+    (λ bytes. IsDecidedBy files query_name max_query_bytes (λ text. IsDecidedByData bytes (λ graph _. IsAnswerOrRefusal form text graph))) verdict
 
 -- `load DATA INDEX`: DATA is read and looked at, and then INDEX is written
 abbrev pub IsLoadVerdict : Files → List ℕ → List ℕ → Verdict → Type 0
 IsLoadVerdict files data_name index_name verdict =
-    IsDecidedBy files data_name max_data_bytes (λ bytes. IsDecidedByData bytes (IsStoredOrTooLong index_name)) verdict
+    IsDecidedBy files data_name max_data_bytes (λ bytes. IsDecidedByData bytes (IsStored index_name)) verdict
 
 -- `query INDEX QUERY FORM`: INDEX is read, then QUERY, and then both are looked at
 abbrev pub IsQueryVerdict : Files → List ℕ → List ℕ → Form → Verdict → Type 0

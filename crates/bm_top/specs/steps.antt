@@ -1,8 +1,8 @@
 pub mod Data
-pub mod Decide
 pub mod Ending
 pub mod Over
 pub mod Printing
 pub mod Requested
 pub mod Store
+pub mod Undecided
 pub mod VerdictOf

@@ -78,8 +78,8 @@ fn print_opened<'a, W: World>(
     }
 }
 
-// The text is answered over an open index, and its answers are printed.
-fn print_answers<'a, W: World>(
+/// Answers a text over an open index, and prints the answers.
+pub(crate) fn print_answers<'a, W: World>(
     alloc: Global,
     index: &Index<'_>,
     text: &[u8],

@@ -1,19 +1,16 @@
 //! The top of the program: what a command does, from the bytes that come in to the bytes that go out.
 #![tactic(auto)]
 
-mod accept;
-mod answers;
 mod args;
 mod ask;
 mod command;
 mod complain;
 mod data;
-mod decide;
 mod ending;
-mod graph;
 mod index_steps;
 mod laws;
 mod load;
+mod named;
 mod over_index;
 mod pieces;
 mod refusal;
@@ -21,6 +18,7 @@ mod steps;
 mod store;
 mod texts;
 mod top;
+mod undecided;
 
 pub use args::run_args;
 pub use laws::{a_loaded_index_answers_as_its_data, each_command_has_one_verdict};

@@ -1,7 +1,7 @@
 //! The steps of `load`, one call of the outside a function.
 ghost use Rattle.std.specs.Prelude.{◌≡◌, [], ◌∷◌, length, IfSome};
 ghost use Rattle.bm_world.specs.World.{NothingIsMade, Step};
-ghost use Rattle.bm_top.specs.Standard.{IsDecidedByData, IsLoadVerdict, IsStoredOrTooLong};
+ghost use Rattle.bm_top.specs.Standard.{IsDecidedByData, IsLoadVerdict, IsStored};
 ghost use Rattle.bm_top.specs.Texts.{stored_text};
 ghost use Rattle.bm_top.specs.Verdict.{stores};
 ghost use Rattle.bm_top.specs.steps.Ending.{Ends, EndsSo, HasReason, Moves};
@@ -43,8 +43,8 @@ fn store_data<'a, W: World, S: BuildHasher + Copy + Drop>(
     world: &mut W,
 ) -> Ending<'a>
     requires { IfSome (W.told world.old) NothingIsMade }
-    ensures step { Step (W.told world.old) (W.told world.new) (λ m n. Ends (IsDecidedByData «data».items (IsStoredOrTooLong index.now)) result m n) }
-    ensures reason { HasReason (λ files. IsDecidedByData «data».items (IsStoredOrTooLong index.now)) ([])
+    ensures step { Step (W.told world.old) (W.told world.new) (λ m n. Ends (IsDecidedByData «data».items (IsStored index.now)) result m n) }
+    ensures reason { HasReason (λ files. IsDecidedByData «data».items (IsStored index.now)) ([])
         (W.told world.old) (W.faults world.old) (W.faults world.new) result }
     ensures moves { Step (W.told world.old) (W.told world.new) (Moves ([])) }
 {

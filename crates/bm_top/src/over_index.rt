@@ -5,8 +5,8 @@ ghost use Rattle.well_designed.specs.Computed.{NamesBelow};
 ghost use Rattle.well_designed.specs.declared.refusals.Refusal.{Refusal};
 ghost use Rattle.bm_top.specs.steps.Over.{IsAnswered, NamesFault};
 
-use crate::accept::named;
-use crate::decide::Undecided;
+use crate::named::named;
+use crate::undecided::Undecided;
 use alg_model::{Names, Query};
 use answer_rows::TextRows;
 use bm_query::{AnswerFault, answer};

@@ -12,11 +12,11 @@ ghost use Rattle.bm_top.specs.steps.Requested.{requested};
 
 use crate::ask::ask;
 use crate::command::Command;
-use crate::decide::Undecided;
 use crate::ending::Ending;
 use crate::index_steps::{check, query};
 use crate::load::load;
 use crate::refusal::Refusal;
+use crate::undecided::Undecided;
 use bm_world::{Failed, ReadEnd, World};
 use result_write::WriteEnd;
 use std::alloc::Global;

@@ -2,7 +2,7 @@
 ghost use Rattle.bm_top.specs.steps.Store.{IsDataIndex};
 
 use crate::data::read_data;
-use crate::decide::Undecided;
+use crate::undecided::Undecided;
 use index_image::image;
 use run_rows::RowForm;
 use std::alloc::Global;

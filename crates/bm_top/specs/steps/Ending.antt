@@ -7,8 +7,8 @@ use Rattle.bm_world.specs.Meanings.{Files, Meanings}
 use Rattle.bm_world.specs.declared.reading.ReadEnd.{ReadEnd}
 use Rattle.bm_world.specs.declared.reading.ReadEnd.TheVariants as read_ends
 use Rattle.bm_world.specs.World.{Rose}
-use Rattle.bm_top.specs.declared.decide.Undecided.{Undecided}
-use Rattle.bm_top.specs.declared.decide.Undecided.TheVariants as undecided
+use Rattle.bm_top.specs.declared.undecided.Undecided.{Undecided}
+use Rattle.bm_top.specs.declared.undecided.Undecided.TheVariants as undecided
 use Rattle.bm_top.specs.declared.ending.Ending.{Ending}
 use Rattle.bm_top.specs.declared.ending.Ending.TheVariants as ends
 use Rattle.bm_top.specs.declared.refusal.Refusal.TheVariants as refusals

@@ -9,8 +9,8 @@ use Rattle.bm_query.specs.declared.fault.AnswerFault.{AnswerFault}
 use Rattle.well_designed.specs.declared.refusals.Refusal.{Refusal}
 use Rattle.result_write.specs.declared.form.Form.{Form}
 use Rattle.result_write.specs.ResultText.{result_text}
-use Rattle.bm_top.specs.declared.decide.Undecided.{Undecided}
-use Rattle.bm_top.specs.declared.decide.Undecided.TheVariants as undecided
+use Rattle.bm_top.specs.declared.undecided.Undecided.{Undecided}
+use Rattle.bm_top.specs.declared.undecided.Undecided.TheVariants as undecided
 use Rattle.bm_top.specs.declared.over_index.Answered.{Answered}
 use Rattle.bm_top.specs.Lines.{pattern_line, query_line}
 use Rattle.bm_top.specs.Standard.{IsAnswerOrRefusal}

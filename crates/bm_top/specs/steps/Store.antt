@@ -1,16 +1,27 @@
--- Carries proofs only: what the index of some data says of the verdict.
+-- Carries proofs only: the index of some data, or why there is none.
 use Rattle.std.specs.Prelude.{◌≡◌, ℕ, List, length, Result, Ok, Err}
-use Rattle.bm_top.specs.declared.decide.Undecided.{Undecided}
+use Rattle.bm_term.specs.declared.triple.Triple.{Triple}
+use Rattle.bm_top.specs.declared.undecided.Undecided.{Undecided}
+use Rattle.bm_top.specs.declared.undecided.Undecided.TheVariants as undecided
 use Rattle.bm_top.specs.declared.store.DataIndex.{DataIndex}
-use Rattle.bm_top.specs.Standard.{IsDecidedByData, IsStoredOrTooLong}
-use Rattle.bm_top.specs.Texts.{stored_text}
-use Rattle.bm_top.specs.Verdict.{Verdict, stores}
-use Rattle.bm_top.specs.steps.Ending.{Says}
+use Rattle.bm_top.specs.Lines.{bad_line_line}
+use Rattle.bm_top.specs.Standard.{HasTooLongImage, HasTooManyTriples, IsBadData, IsGraphOf, IsIndexOf}
 
--- the verdict of data that is loaded into the named file
-abbrev pub IsOfLoading : List ℕ → Result DataIndex Undecided → List ℕ → Verdict → Type 0
-IsOfLoading bytes (Ok index) name verdict = verdict ≡ stores name index.bytes.items (stored_text index.triples (length index.bytes.items))
-IsOfLoading bytes (Err why) name verdict = Says why verdict
+-- it is the index of the graph of the data, with the number of its triples
+pub record IsIndexFor (bytes : List ℕ) (made : DataIndex) : Type 0 where
+  pub graph : List Triple
+  pub is_graph : IsGraphOf bytes graph
+  pub is_index : IsIndexOf graph made.bytes.items
+  pub count : made.triples ≡ length graph
+
+-- why data has no index
+abbrev pub HasNoIndex : List ℕ → Undecided → Type 0
+HasNoIndex bytes (undecided.BadLine line) = IsBadData bytes (bad_line_line line)
+HasNoIndex bytes undecided.TooManyTriples = HasTooManyTriples bytes
+HasNoIndex bytes undecided.ImageTooLong = HasTooLongImage bytes
+HasNoIndex bytes (undecided.Query refusal) = ⊥
+HasNoIndex bytes undecided.Memory = Unit {0}
 
 abbrev pub IsDataIndex : List ℕ → Result DataIndex Undecided → Type 0
-IsDataIndex bytes result = (name : List ℕ) (verdict : Verdict) → IsDecidedByData bytes (IsStoredOrTooLong name) verdict → IsOfLoading bytes result name verdict
+IsDataIndex bytes (Ok made) = IsIndexFor bytes made
+IsDataIndex bytes (Err why) = HasNoIndex bytes why

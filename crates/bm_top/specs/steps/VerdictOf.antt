@@ -1,4 +1,4 @@
--- Carries proofs only: the verdict of data and a query as a function that reads them.
+-- Carries proofs only: the graph of data, and the verdict of a query over it, as functions that read them.
 use Rattle.std.specs.Prelude.{ℕ, Bool, List, Option, Some, None, Result, Ok, Err, nat_lt, length, if◌then◌else◌}
 use Rattle.bm_term.specs.Graph.{graph_of}
 use Rattle.alg_model.specs.Answers.{answers_to}
@@ -25,22 +25,6 @@ abbrev pub answering : Form → List Triple → Result AbstractQuery QueryFault 
 answering form graph (Err fault) = refused 3 (fault_line fault)
 answering form graph (Ok query) = accepting form graph query (refusal_in query.pattern)
 
--- a graph keeps its limit, or not
-abbrev pub counting : Bool → Verdict → Verdict
-counting many next = if many then refused 8 too_many_triples_line else next
-
-abbrev pub has_too_many : List Triple → Bool
-has_too_many graph = nat_lt max_triples (length graph)
-
--- the first bad line is looked for, then the triples are counted, and then comes the query
-abbrev pub deciding : Form → Option ℕ → List Triple → Result AbstractQuery QueryFault → Verdict
-deciding form (Some line) graph reading = refused 2 (bad_line_line line)
-deciding form None graph reading = counting (has_too_many graph) (answering form graph reading)
-
 -- the graph of some bytes
 abbrev pub graph_in : List ℕ → List Triple
 graph_in bytes = graph_of (triples_of (lines_of bytes))
-
--- both files have been read
-unfoldable pub decided : Form → List ℕ → List ℕ → Verdict
-decided form bytes text = deciding form (first_bad bytes) (graph_in bytes) (query_reading text)

@@ -9,13 +9,13 @@ returns-in-Ok-clause-step g c =
     let small : length c.in-Ok.text.items ≤ 1048576 = omega (arith, c.in-Ok.text.ok, c.in-Ok.ensures.within) in
     Step-then c.in-Ok.ensures.step c.print_decided.ensures.step (λ m k n reads ended.
     Ends-reading c.args.query.now [] 1048576
-    (λ files text. IsDecidedByData c.args.data.items (IsAnswerOrRefusal c.args.form text)) m k n c.in-Ok.text c.print_decided.result reads small (rw c.deref.ensures.value at ended))
+    (λ files text. IsDecidedByData c.args.data.items (λ graph _. IsAnswerOrRefusal c.args.form text graph)) m k n c.in-Ok.text c.print_decided.result reads small (rw c.deref.ensures.value at ended))
 
 pub returns-in-Ok-clause-reason : goal.returns-in-Ok-clause-reason
 returns-in-Ok-clause-reason g c =
     let small : length c.in-Ok.text.items ≤ 1048576 = omega (arith, c.in-Ok.text.ok, c.in-Ok.ensures.within) in
     HasReason-later c.args.query.now [] 1048576
-    (λ files text. IsDecidedByData c.args.data.items (IsAnswerOrRefusal c.args.form text)) _ _ _ _ _ c.in-Ok.text c.print_decided.result
+    (λ files text. IsDecidedByData c.args.data.items (λ graph _. IsAnswerOrRefusal c.args.form text graph)) _ _ _ _ _ c.in-Ok.text c.print_decided.result
     c.in-Ok.ensures.later c.in-Ok.ensures.writes_stay c.in-Ok.ensures.says_stay small c.in-Ok.ensures.step (rw c.deref.ensures.value at c.print_decided.ensures.reason)
 
 pub returns-in-Ok-clause-moves : goal.returns-in-Ok-clause-moves
@@ -27,13 +27,13 @@ pub returns-in-Err-clause-step : goal.returns-in-Err-clause-step
 returns-in-Err-clause-step g c =
     Step-weaken c.in-Err.ensures.step (λ m n reads. rw c.read_ending.ensures
     (Ends-unread c.args.query.now [] 1048576
-    (λ files text. IsDecidedByData c.args.data.items (IsAnswerOrRefusal c.args.form text)) m n c.in-Err.end c.args.query refl reads))
+    (λ files text. IsDecidedByData c.args.data.items (λ graph _. IsAnswerOrRefusal c.args.form text graph)) m n c.in-Err.end c.args.query refl reads))
 
 pub returns-in-Err-clause-reason : goal.returns-in-Err-clause-reason
 returns-in-Err-clause-reason g c =
     rw c.read_ending.ensures
     (HasReason-unread c.args.query.now [] 1048576
-    (λ files text. IsDecidedByData c.args.data.items (IsAnswerOrRefusal c.args.form text)) _ _ _ c.in-Err.end c.args.query refl
+    (λ files text. IsDecidedByData c.args.data.items (λ graph _. IsAnswerOrRefusal c.args.form text graph)) _ _ _ c.in-Err.end c.args.query refl
     c.in-Err.ensures.later c.in-Err.ensures.writes_stay c.in-Err.ensures.says_stay (λ is. c.in-Err.ensures.fault (ap Err is)))
 
 pub returns-in-Err-clause-moves : goal.returns-in-Err-clause-moves

@@ -1,30 +1,12 @@
-//! Whether a query is accepted, whatever the data: its pattern is well designed, and its variables are at places that are
-//! answered.
+//! The refusal of a query, with the name of its variable.
 ghost use Rattle.std.specs.Prelude.{◌≡◌, ◌<◌, [], length, slice_index_or, string_bytes, IfOk};
-ghost use Rattle.alg_model.specs.Limits.{KeepsLimits};
-ghost use Rattle.alg_model.specs.Query.{abstract_of};
 ghost use Rattle.bm_top.specs.Lines.{pattern_line, query_line};
-ghost use Rattle.bm_top.specs.steps.Decide.{IsAcceptance};
 ghost use Rattle.well_designed.specs.Computed.{NamesBelow};
 
-use crate::decide::Undecided;
 use crate::refusal::QueryRefusal;
-use alg_model::{Names, Query, Var};
+use alg_model::{Names, Var};
 use std::alloc::{AllocError, Global};
-use well_designed::{Refusal, refusal_of};
-
-/// Accepts a query, or says why it is refused.
-pub(crate) fn accept(alloc: Global, query: &Query) -> Result<(), Undecided>
-    requires { KeepsLimits query.now }
-    ensures { IsAcceptance (abstract_of query.now) result }
-{
-    match refusal_of(&query.pattern) {
-        Some(refusal) => Err(Undecided::Query {
-            refusal: named(alloc, &query.names, refusal)?,
-        }),
-        None => Ok(()),
-    }
-}
+use well_designed::Refusal;
 
 /// A refusal with the name of its variable.
 pub(crate) fn named(
