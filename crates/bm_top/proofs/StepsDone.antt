@@ -9,7 +9,7 @@ use Rattle.bm_term.proofs.Elements.{Contains-head, Contains-nil, Contains-tail}
 use Rattle.bm_world.specs.declared.world.Failed.{Failed}
 use Rattle.bm_world.specs.declared.world.Faults.{Faults}
 use Rattle.bm_world.specs.Meanings.{Files, Meanings, file_at, with_made, with_opened, with_printed}
-use Rattle.bm_world.specs.Reading.{ReadsAll}
+use Rattle.bm_world.specs.Reading.{ReadsAll, ReadsWhole}
 use Rattle.bm_world.specs.World.{AppendsAll, NothingIsMade, RisesOnErr, Step, Rose, IsMissing}
 use Rattle.bm_world.specs.declared.reading.ReadEnd.{ReadEnd}
 use Rattle.bm_world.specs.declared.reading.ReadEnd.TheVariants as read_ends
@@ -244,17 +244,21 @@ ReadsOnly-reading name limit (Err read_ends.Fault) m k moved =
       | inr some ↦ reads_only_opened name (Some some.1.left) m k some.1.moved
     ]
 
+-- the same where the whole of it was
+pub ReadsOnly-whole : (name bytes : List ℕ) (m k : Meanings) → ReadsWhole name bytes m k → ReadsOnly m k
+ReadsOnly-whole name bytes m k reads = reads_only_opened name (Some []) m k reads.1
+
 -- reading makes no file
 pub made_reading : (name : List ℕ) (limit : ℕ) (result : Result (Vec ℕ Global) ReadEnd) (m k : Meanings) → ReadsAll name limit result m k → k.made ≡ m.made
 made_reading name limit result m k reads = ap (λ (w : Meanings). w.made) (ReadsOnly-reading name limit result m k reads)
 
 -- one file is opened, and then those that are left
-pub Moves-more : (name : List ℕ) (names : List (List ℕ)) (limit : ℕ) (bytes : Vec ℕ Global) (m k n : Meanings) → ReadsAll name limit (Ok bytes) m k → Moves names k n → Moves (name ∷ names) m n
-Moves-more name names limit bytes m k n reads moves =
+pub Moves-more : (name : List ℕ) (names : List (List ℕ)) (bytes : List ℕ) (m k n : Meanings) → ReadsWhole name bytes m k → Moves names k n → Moves (name ∷ names) m n
+Moves-more name names bytes m k n reads moves =
     let (count, more) = moves.opens in
     record {
       opens = (suc count, more ∙ ap (λ (so_far : List (List ℕ)). so_far ++ take count names) (ap (λ (w : Meanings). w.opened) reads.1) ∙ append_assoc m.opened (name ∷ []) (take count names));
-      made = moves.made ∙ made_reading name limit (Ok bytes) m k reads;
+      made = moves.made ∙ ap (λ (w : Meanings). w.made) (ReadsOnly-whole name bytes m k reads);
     }
 
 -- the file that is read is opened, and no other
@@ -279,15 +283,15 @@ module _ (name : List ℕ) (names : List (List ℕ)) (limit : ℕ) (Next : Files
   abbrev IsOf : Files → Verdict → Type 0
   IsOf files verdict = IsDecidedBy files name limit (Next files) verdict
 
-  same_files : (m k : Meanings) (bytes : Vec ℕ Global) → ReadsAll name limit (Ok bytes) m k → k.files ≡ m.files
+  same_files : (m k : Meanings) (bytes : List ℕ) → ReadsWhole name bytes m k → k.files ≡ m.files
   same_files m k bytes (whole, moved) = ap (λ (w : Meanings). w.files) moved
 
   -- the file was read
-  pub Ends-reading : (m k n : Meanings) (bytes : Vec ℕ Global) (ending : Ending) → ReadsAll name limit (Ok bytes) m k → length bytes.items ≤ limit → Ends (Next k.files bytes.items) ending k n → Ends (IsOf m.files) ending m n
+  pub Ends-reading : (m k n : Meanings) (bytes : List ℕ) (ending : Ending) → ReadsWhole name bytes m k → length bytes ≤ limit → Ends (Next k.files bytes) ending k n → Ends (IsOf m.files) ending m n
   Ends-reading m k n bytes ending reads small ended verdict is =
-      let P : Files → Type 0 = λ files. Next files bytes.items verdict in
-      let next : Next k.files bytes.items verdict = subst P (sym (same_files m k bytes reads)) (read_next m.files name limit (Next m.files) bytes.items verdict reads.0 small is) in
-      EndsSo-after_read verdict ending m k n (ReadsOnly-reading name limit (Ok bytes) m k reads) (ended verdict next)
+      let P : Files → Type 0 = λ files. Next files bytes verdict in
+      let next : Next k.files bytes verdict = subst P (sym (same_files m k bytes reads)) (read_next m.files name limit (Next m.files) bytes verdict reads.0 small is) in
+      EndsSo-after_read verdict ending m k n (ReadsOnly-whole name bytes m k reads) (ended verdict next)
 
   -- the file was not read to its end
   pub Ends-unread : (m k : Meanings) (end : ReadEnd) (shown : Bor (List ℕ)) → shown.now ≡ name → ReadsAll name limit (Err end) m k → Ends (IsOf m.files) (after_reading end shown limit) m k
@@ -325,19 +329,19 @@ module _ (name : List ℕ) (names : List (List ℕ)) (limit : ℕ) (Next : Files
     reason = unread_reason told before now end shown is why;
   }
 
-  earlier : (told mid : Option Meanings) (bytes : Vec ℕ Global) (found : Verdict) → length bytes.items ≤ limit → Step told mid (ReadsAll name limit (Ok bytes)) → IsSomeAnd mid (λ k. Next k.files bytes.items found)
+  earlier : (told mid : Option Meanings) (bytes : List ℕ) (found : Verdict) → length bytes ≤ limit → Step told mid (ReadsWhole name bytes) → IsSomeAnd mid (λ k. Next k.files bytes found)
       → IsSomeAnd told (λ m. IsOf m.files found)
   earlier None None bytes found small step h = h
   earlier None (Some k) bytes found small step h = let lost = step.silent refl in absurd (cc)
   earlier (Some m) None bytes found small step h = absurd h
   earlier (Some m) (Some k) bytes found small step h =
       let reads = step.moves m k refl refl in
-      let P : Files → Type 0 = λ files. Next files bytes.items found in
-      let next : Next m.files bytes.items found = subst P (same_files m k bytes reads) h in
-      read_whole bytes.items reads.0 small next
+      let P : Files → Type 0 = λ files. Next files bytes found in
+      let next : Next m.files bytes found = subst P (same_files m k bytes reads) h in
+      read_whole bytes reads.0 small next
 
-  later_reason : (told mid : Option Meanings) (before between now : Faults) (bytes : Vec ℕ Global) (ending : Ending) → before.reads ≤ between.reads → between.writes ≡ before.writes → length bytes.items ≤ limit
-      → Step told mid (ReadsAll name limit (Ok bytes)) → Reason (λ files. Next files bytes.items) names mid between now ending → Reason IsOf (name ∷ names) told before now ending
+  later_reason : (told mid : Option Meanings) (before between now : Faults) (bytes : List ℕ) (ending : Ending) → before.reads ≤ between.reads → between.writes ≡ before.writes → length bytes ≤ limit
+      → Step told mid (ReadsWhole name bytes) → Reason (λ files. Next files bytes) names mid between now ending → Reason IsOf (name ∷ names) told before now ending
   later_reason told mid before between now bytes ends.Done later writes small step why = tt
   later_reason told mid before between now bytes (ends.Refused refusal) later writes small step why = tt
   later_reason told mid before between now bytes (ends.ReadFault shown) later writes small step why = (
@@ -351,8 +355,8 @@ module _ (name : List ℕ) (names : List (List ℕ)) (limit : ℕ) (Next : Files
   later_reason told mid before between now bytes ends.Memory later writes small step why = tt
 
   -- why a later step failed
-  pub HasReason-later : (told mid : Option Meanings) (before between now : Faults) (bytes : Vec ℕ Global) (ending : Ending) → before.reads ≤ between.reads → between.writes ≡ before.writes → between.says ≡ before.says → length bytes.items ≤ limit
-      → Step told mid (ReadsAll name limit (Ok bytes)) → HasReason (λ files. Next files bytes.items) names mid between now ending
+  pub HasReason-later : (told mid : Option Meanings) (before between now : Faults) (bytes : List ℕ) (ending : Ending) → before.reads ≤ between.reads → between.writes ≡ before.writes → between.says ≡ before.says → length bytes ≤ limit
+      → Step told mid (ReadsWhole name bytes) → HasReason (λ files. Next files bytes) names mid between now ending
       → HasReason IsOf (name ∷ names) told before now ending
   HasReason-later told mid before between now bytes ending later writes says small step had = record {
     reads_later = omega (arith, had.reads_later);

@@ -6,7 +6,7 @@ use Rattle.bm_world.specs.declared.reading.ReadEnd.{ReadEnd}
 use Rattle.bm_world.specs.declared.reading.ReadEnd.TheVariants.{Fault, TooLong, Memory}
 use Rattle.bm_world.specs.Meanings.{Meanings, file_at, with_opened}
 use Rattle.bm_world.specs.World.{Step, Rose, IsMissing, Takes, NothingIsOpen}
-use Rattle.bm_world.specs.Reading.{ReadsUpTo, ReadsAll, buffer_bytes}
+use Rattle.bm_world.specs.Reading.{ReadsUpTo, ReadsAll, ReadsWhole, buffer_bytes}
 use Rattle.bm_world.proofs.Steps.{Step-then, Step-weaken}
 
 -- this is left to read
@@ -61,10 +61,10 @@ nothing_left {buffer} {count} k n none room moved =
     (moved.came ∙ ap Some nothing, moved.moved ∙ ap (λ (left : List ℕ). with_rest (Some left) k) end)
 
 -- the last read
-pub reads_all : {a b c : Option Meanings} {name buffer : List ℕ} {count limit : ℕ} (bytes : Vec ℕ Global) → count ≡ 0 → 0 < length buffer → Step a b (ReadsUpTo name bytes.items limit) → Step b c (Takes buffer count) → Step a c (ReadsAll name limit (Ok bytes))
+pub reads_all : {a b c : Option Meanings} {name buffer : List ℕ} {count limit : ℕ} (bytes : List ℕ) → count ≡ 0 → 0 < length buffer → Step a b (ReadsUpTo name bytes limit) → Step b c (Takes buffer count) → Step a c (ReadsWhole name bytes)
 reads_all bytes none room before call = Step-then before call (λ m k n so_far moved.
     let end = nothing_left k n none room moved in (
-      so_far.whole ∙ ap (λ (left : List ℕ). Some (bytes.items ++ left)) (left_is so_far end.0) ∙ ap Some (append-nil bytes.items),
+      so_far.whole ∙ ap (λ (left : List ℕ). Some (bytes ++ left)) (left_is so_far end.0) ∙ ap Some (append-nil bytes),
       end.1 ∙ ap (with_rest (Some [])) so_far.moved,
     ))
 

@@ -17,10 +17,14 @@ pub record ReadsUpTo (name came : List ℕ) (limit : ℕ) (m n : Meanings) : Typ
   pub moved : n ≡ with_opened m name (Some left)
   pub within : length came ≤ limit + buffer_bytes
 
+-- the bytes are all of the named file, and have come
+abbrev pub ReadsWhole : List ℕ → List ℕ → Meanings → Meanings → Type 0
+ReadsWhole name bytes m n = (file_at m name ≡ Some bytes) × (n ≡ with_opened m name (Some []))
+
 -- All bytes of the named file have come, or more than the limit.
 -- After a fault or for want of memory some have come; where the file was not opened, nothing is open.
 abbrev pub ReadsAll : List ℕ → ℕ → Result (Vec ℕ Global) ReadEnd → Meanings → Meanings → Type 0
-ReadsAll name limit (Ok bytes) m n = (file_at m name ≡ Some bytes.items) × (n ≡ with_opened m name (Some []))
+ReadsAll name limit (Ok bytes) m n = ReadsWhole name bytes.items m n
 ReadsAll name limit (Err TooLong) m n = (came : List ℕ) × (ReadsUpTo name came limit m n × (limit < length came))
 ReadsAll name limit (Err Memory) m n = (came : List ℕ) × ReadsUpTo name came limit m n
 ReadsAll name limit (Err Fault) m n = (n ≡ record m { rest = None }) ⊎ ((came : List ℕ) × ReadsUpTo name came limit m n)

@@ -9,19 +9,19 @@ returns-in-Ok-clause-step g c =
     let small : length c.in-Ok.bytes.items ≤ 536870912 = omega (arith, c.in-Ok.bytes.ok, c.in-Ok.ensures.within) in
     Step-then c.in-Ok.ensures.step c.ask_of_data.ensures.step (λ m k n reads ended.
     Ends-reading c.args.data.now (c.args.query.now ∷ []) 536870912
-    (λ files bytes. IsDecidedBy files c.args.query.now 1048576 (λ text. IsDecidedByData bytes (λ graph _. IsAnswerOrRefusal c.args.form text graph))) m k n c.in-Ok.bytes c.ask_of_data.result reads small ended)
+    (λ files bytes. IsDecidedBy files c.args.query.now 1048576 (λ text. IsDecidedByData bytes (λ graph _. IsAnswerOrRefusal c.args.form text graph))) m k n c.in-Ok.bytes.items c.ask_of_data.result reads small ended)
 
 pub returns-in-Ok-clause-reason : goal.returns-in-Ok-clause-reason
 returns-in-Ok-clause-reason g c =
     let small : length c.in-Ok.bytes.items ≤ 536870912 = omega (arith, c.in-Ok.bytes.ok, c.in-Ok.ensures.within) in
     HasReason-later c.args.data.now (c.args.query.now ∷ []) 536870912
-    (λ files bytes. IsDecidedBy files c.args.query.now 1048576 (λ text. IsDecidedByData bytes (λ graph _. IsAnswerOrRefusal c.args.form text graph))) _ _ _ _ _ c.in-Ok.bytes c.ask_of_data.result
+    (λ files bytes. IsDecidedBy files c.args.query.now 1048576 (λ text. IsDecidedByData bytes (λ graph _. IsAnswerOrRefusal c.args.form text graph))) _ _ _ _ _ c.in-Ok.bytes.items c.ask_of_data.result
     c.in-Ok.ensures.later c.in-Ok.ensures.writes_stay c.in-Ok.ensures.says_stay small c.in-Ok.ensures.step c.ask_of_data.ensures.reason
 
 pub returns-in-Ok-clause-moves : goal.returns-in-Ok-clause-moves
 returns-in-Ok-clause-moves g c =
     Step-then c.in-Ok.ensures.step c.ask_of_data.ensures.moves (λ m k n reads moves.
-    Moves-more c.args.data.now (c.args.query.now ∷ []) 536870912 c.in-Ok.bytes m k n reads moves)
+    Moves-more c.args.data.now (c.args.query.now ∷ []) c.in-Ok.bytes.items m k n reads moves)
 
 pub returns-in-Err-clause-step : goal.returns-in-Err-clause-step
 returns-in-Err-clause-step g c =

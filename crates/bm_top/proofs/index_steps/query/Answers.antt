@@ -9,19 +9,19 @@ returns-in-Ok-clause-step g c =
     let small : length c.in-Ok.bytes.items ≤ 4294967295 = omega (arith, c.in-Ok.bytes.ok, c.in-Ok.ensures.within) in
     Step-then c.in-Ok.ensures.step c.query_of_index.ensures.step (λ m k n reads ended.
     Ends-reading c.args.index.now (c.args.query.now ∷ []) 4294967295
-    (λ files bytes. IsDecidedBy files c.args.query.now 1048576 (λ text. IsDecidedByIndex bytes (IsAnswerOrRefusal c.args.form text))) m k n c.in-Ok.bytes c.query_of_index.result reads small (rw c.deref.ensures.value at ended))
+    (λ files bytes. IsDecidedBy files c.args.query.now 1048576 (λ text. IsDecidedByIndex bytes (IsAnswerOrRefusal c.args.form text))) m k n c.in-Ok.bytes.items c.query_of_index.result reads small (rw c.deref.ensures.value at ended))
 
 pub returns-in-Ok-clause-reason : goal.returns-in-Ok-clause-reason
 returns-in-Ok-clause-reason g c =
     let small : length c.in-Ok.bytes.items ≤ 4294967295 = omega (arith, c.in-Ok.bytes.ok, c.in-Ok.ensures.within) in
     HasReason-later c.args.index.now (c.args.query.now ∷ []) 4294967295
-    (λ files bytes. IsDecidedBy files c.args.query.now 1048576 (λ text. IsDecidedByIndex bytes (IsAnswerOrRefusal c.args.form text))) _ _ _ _ _ c.in-Ok.bytes c.query_of_index.result
+    (λ files bytes. IsDecidedBy files c.args.query.now 1048576 (λ text. IsDecidedByIndex bytes (IsAnswerOrRefusal c.args.form text))) _ _ _ _ _ c.in-Ok.bytes.items c.query_of_index.result
     c.in-Ok.ensures.later c.in-Ok.ensures.writes_stay c.in-Ok.ensures.says_stay small c.in-Ok.ensures.step (rw c.deref.ensures.value at c.query_of_index.ensures.reason)
 
 pub returns-in-Ok-clause-moves : goal.returns-in-Ok-clause-moves
 returns-in-Ok-clause-moves g c =
     Step-then c.in-Ok.ensures.step c.query_of_index.ensures.moves (λ m k n reads moves.
-    Moves-more c.args.index.now (c.args.query.now ∷ []) 4294967295 c.in-Ok.bytes m k n reads moves)
+    Moves-more c.args.index.now (c.args.query.now ∷ []) c.in-Ok.bytes.items m k n reads moves)
 
 pub returns-in-Err-clause-step : goal.returns-in-Err-clause-step
 returns-in-Err-clause-step g c =

@@ -9,19 +9,19 @@ returns-in-Ok-clause-step g c =
     let small : length c.in-Ok.text.items ≤ 1048576 = omega (arith, c.in-Ok.text.ok, c.in-Ok.ensures.within) in
     Step-then c.in-Ok.ensures.step c.print_opened.ensures.step (λ m k n reads ended.
     Ends-reading c.args.query.now [] 1048576
-    (λ files text. IsDecidedByIndex c.args.index.now (IsAnswerOrRefusal c.args.form text)) m k n c.in-Ok.text c.print_opened.result reads small (rw c.deref.ensures.value at ended))
+    (λ files text. IsDecidedByIndex c.args.index.now (IsAnswerOrRefusal c.args.form text)) m k n c.in-Ok.text.items c.print_opened.result reads small (rw c.deref.ensures.value at ended))
 
 pub returns-in-Ok-clause-reason : goal.returns-in-Ok-clause-reason
 returns-in-Ok-clause-reason g c =
     let small : length c.in-Ok.text.items ≤ 1048576 = omega (arith, c.in-Ok.text.ok, c.in-Ok.ensures.within) in
     HasReason-later c.args.query.now [] 1048576
-    (λ files text. IsDecidedByIndex c.args.index.now (IsAnswerOrRefusal c.args.form text)) _ _ _ _ _ c.in-Ok.text c.print_opened.result
+    (λ files text. IsDecidedByIndex c.args.index.now (IsAnswerOrRefusal c.args.form text)) _ _ _ _ _ c.in-Ok.text.items c.print_opened.result
     c.in-Ok.ensures.later c.in-Ok.ensures.writes_stay c.in-Ok.ensures.says_stay small c.in-Ok.ensures.step (rw c.deref.ensures.value at c.print_opened.ensures.reason)
 
 pub returns-in-Ok-clause-moves : goal.returns-in-Ok-clause-moves
 returns-in-Ok-clause-moves g c =
     Step-then c.in-Ok.ensures.step c.print_opened.ensures.moves (λ m k n reads moves.
-    Moves-more c.args.query.now [] 1048576 c.in-Ok.text m k n reads moves)
+    Moves-more c.args.query.now [] c.in-Ok.text.items m k n reads moves)
 
 pub returns-in-Err-clause-step : goal.returns-in-Err-clause-step
 returns-in-Err-clause-step g c =

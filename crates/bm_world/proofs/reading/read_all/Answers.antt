@@ -1,7 +1,7 @@
 use Rattle.std.proofs.Common.{arith, refl, ◌∙◌, ⊎_elim, inl}
 use Rattle.std.proofs.lemmas.Result.{err_from_is_err_and}
 use Rattle.bm_world.proofs.WholeFile.{reads_none, reads_more, reads_all, reads_too_long, reads_no_memory, reads_not_opened, reads_fault, is_open}
-use Rattle.bm_world.proofs.Steps.{rose_later}
+use Rattle.bm_world.proofs.Steps.{Step-weaken, rose_later}
 use Rattle.bm_world.proofs.reading.read_all.Goals as goal
 
 pub returns-in_err-open-clause-step : goal.returns-in_err-open-clause-step
@@ -37,7 +37,7 @@ returns-in_err-count-clause-fault g c _ = ⊎_elim
 
 pub returns-then-count-eq0-clause-step : goal.returns-then-count-eq0-clause-step
 returns-then-count-eq0-clause-step g c =
-    reads_all c.loop-bytes.bytes c.if-count-eq0.true (omega arith) c.loop-bytes.invariant.so_far c.in_ok-count.ensures.step
+    Step-weaken (reads_all c.loop-bytes.bytes.items c.if-count-eq0.true (omega arith) c.loop-bytes.invariant.so_far c.in_ok-count.ensures.step) (λ m n whole. whole)
 
 pub returns-in_err-extend_from_slice-clause-step :
     goal.returns-in_err-extend_from_slice-clause-step
