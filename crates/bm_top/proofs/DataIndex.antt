@@ -1,5 +1,5 @@
 -- The graph of data is one of RDF triples, and its index is the image of it.
-use Rattle.std.proofs.Common.{◌≡◌, ℕ, ◌<◌, ◌≤◌, ◌^◌, List, length, All, get_or, refl, arith}
+use Rattle.std.proofs.Common.{◌≡◌, ℕ, ◌<◌, ◌≤◌, ◌^◌, List, length, All, get_or, refl, sym, subst, arith}
 use Rattle.std.specs.List.Sorted.{IsStrictlySortedBy}
 use Rattle.std.proofs.lemmas.List.Elements.{All-contains, Contains-get_or}
 use Rattle.bm_term.specs.declared.triple.Triple.{Triple}
@@ -13,8 +13,9 @@ use Rattle.run_rows.specs.declared.form.RowForm.TheVariants.{V1}
 use Rattle.term_numbers.specs.Limits.{max_triples}
 use Rattle.index_file.specs.Image.{image_of}
 use Rattle.bm_top.specs.Lines.{max_index_bytes}
-use Rattle.bm_top.specs.Standard.{IsIndexOf}
+use Rattle.bm_top.specs.Standard.{IsGraphOf, IsIndexOf}
 use Rattle.bm_top.specs.steps.VerdictOf.{graph_in}
+use Rattle.bm_top.proofs.ReadData.{graph-read}
 
 -- the graph that is read is one of RDF triples, and ascends
 pub graph_in-rdf : (bytes : List ℕ) → All IsRdfTriple (graph_in bytes)
@@ -37,3 +38,9 @@ index-read bytes few short = record {
   };
   spelled = refl;
 }
+
+-- the index of a graph of data that keeps the limits
+pub graph_index : (bytes : List ℕ) (graph : List Triple) → IsGraphOf bytes graph → length graph ≤ max_triples → length (image_of 1 V1 graph) ≤ max_index_bytes → IsIndexOf graph (image_of 1 V1 graph)
+graph_index bytes graph is few short =
+    let P : List Triple → Type 0 = λ g. length g ≤ max_triples → length (image_of 1 V1 g) ≤ max_index_bytes → IsIndexOf g (image_of 1 V1 g) in
+    subst P (sym (graph-read bytes graph is).are) (index-read bytes) few short

@@ -26,7 +26,7 @@ use Rattle.well_designed.proofs.ComputedRefusal.{refusal_in-accepted, refusal_in
 use Rattle.result_write.specs.declared.form.Form.{Form}
 use Rattle.result_write.specs.ResultText.{result_text}
 use Rattle.bm_top.specs.Lines.{bad_line_line, fault_line, pattern_line}
-use Rattle.bm_top.specs.Standard.{IsGraphOf, IsBadData, IsAnswerOver, IsAnswerOrRefusal, bad_query, answer, IsRefusedText, has_fault, has_pattern}
+use Rattle.bm_top.specs.Standard.{AreNTriples, IsGraphOf, IsBadData, IsAnswerOver, IsAnswerOrRefusal, bad_query, answer, IsRefusedText, has_fault, has_pattern}
 use Rattle.bm_top.specs.Verdict.{Verdict, answered, refused}
 use Rattle.bm_top.specs.steps.VerdictOf.{accepting, answering, graph_in}
 
@@ -47,14 +47,17 @@ graph-read bytes graph is =
     let (good, same) = (spelled-triples_of (lines_of bytes) is.triples).0 spelled in
     record { none = (first_bad-none bytes).1 good; are = (graph-is is.triples graph).0 is.is_graph ∙ ap graph_of same }
 
+pub read-triples : (bytes : List ℕ) → first_bad bytes ≡ None → AreNTriples bytes (triples_of (lines_of bytes))
+read-triples bytes none = record {
+  lines = lines_of bytes;
+  are_lines = (AreLines-lines_of bytes (lines_of bytes)).1 refl;
+  spelled = (spelled-triples_of (lines_of bytes) (triples_of (lines_of bytes))).1 ((first_bad-none bytes).0 none, refl);
+}
+
 pub read-graph : (bytes : List ℕ) → first_bad bytes ≡ None → IsGraphOf bytes (graph_in bytes)
 read-graph bytes none = record {
   triples = triples_of (lines_of bytes);
-  are_triples = record {
-    lines = lines_of bytes;
-    are_lines = (AreLines-lines_of bytes (lines_of bytes)).1 refl;
-    spelled = (spelled-triples_of (lines_of bytes) (triples_of (lines_of bytes))).1 ((first_bad-none bytes).0 none, refl);
-  };
+  are_triples = read-triples bytes none;
   is_graph = (graph-is (triples_of (lines_of bytes)) (graph_in bytes)).1 refl;
 }
 

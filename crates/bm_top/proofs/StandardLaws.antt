@@ -19,8 +19,8 @@ use Rattle.bm_top.specs.Command.{Request, ask, load, query, check, form_of, requ
 use Rattle.bm_top.specs.Lines.{max_data_bytes, max_query_bytes, max_index_bytes, usage_line}
 use Rattle.bm_top.specs.Standard.{Asks, AsksIndex, HoldBytes, IsAnswer, IsAnswerOrRefusal, answer, IsAskVerdict, IsCheckVerdict, IsCounted, IsDecidedBy, missing, too_long, read, IsDecidedByData, bad_data, too_many, too_long_image, good_data, IsDecidedByIndex, damaged, good_index, IsGraphOf, IsIndexOf, IsIndexOfData, IsLoadVerdict, IsQueryVerdict, IsRequestVerdict, IsStored, IsVerdict}
 use Rattle.bm_top.specs.Verdict.{Verdict, answered, files_after, refused}
-use Rattle.bm_top.proofs.DataIndex.{index-read}
-use Rattle.bm_top.proofs.ReadData.{graph-one, graph-read}
+use Rattle.bm_top.proofs.DataIndex.{graph_index}
+use Rattle.bm_top.proofs.ReadData.{graph-one}
 use Rattle.bm_top.proofs.Verdicts.{HasOne, One, answer_one, answer_some, counted_one, data_one, data_some, good_then, index_one, index_some, index_then, read_next, read_one, read_some, stored_one}
 
 -- a command has at most one verdict
@@ -51,18 +51,12 @@ request_some files (Some (check index_name)) hold =
 index_is_short : (graph : List Triple) (index : List ℕ) → IsIndexOf graph index → length index ≤ max_index_bytes
 index_is_short graph index is = omega (arith, is.storable.short, ap length is.spelled)
 
--- the index of a graph of data that keeps the limits
-answer_index : (bytes : List ℕ) (graph : List Triple) → IsGraphOf bytes graph → length graph ≤ max_triples → length (image_of 1 V1 graph) ≤ max_index_bytes → IsIndexOf graph (image_of 1 V1 graph)
-answer_index bytes graph is few short =
-    let P : List Triple → Type 0 = λ g. length g ≤ max_triples → length (image_of 1 V1 g) ≤ max_index_bytes → IsIndexOf g (image_of 1 V1 g) in
-    subst P (sym (graph-read bytes graph is).are) (index-read bytes) few short
-
 -- the verdict of words that ask over data
 pub asked_verdict : (words : List (List ℕ)) (files : Files) (form : Form) (bytes text printed : List ℕ) → Asks words files form bytes text → IsAnswer form bytes text printed → IsVerdict words files (answered printed)
 asked_verdict words files form bytes text printed asked is =
     let P : Option Request → Type 0 = λ request. IsRequestVerdict files request (answered printed) in
     subst P (sym asked.command) (read bytes asked.data_file asked.data_within (read text asked.query_file asked.query_within
-    (good_data is.graph (image_of 1 V1 is.graph) is.is_graph (answer_index bytes is.graph is.is_graph is.few is.short) (answer printed is.is_answer refl))))
+    (good_data is.graph (image_of 1 V1 is.graph) is.is_graph (graph_index bytes is.graph is.is_graph is.few is.short) (answer printed is.is_answer refl))))
 
 -- and over the index of the data
 pub asked_index_verdict : (words : List (List ℕ)) (files : Files) (form : Form) (bytes index text printed : List ℕ) → AsksIndex words files form index text → IsIndexOfData bytes index → IsAnswer form bytes text printed

@@ -1,14 +1,15 @@
 -- The index of data, by what each part said of it.
-use Rattle.std.proofs.Common.{◌≡◌, ℕ, ◌<◌, ◌≤◌, ◌^◌, List, length, None, Ok, Err, refl, sym, ap, subst, ◌∙◌, arith}
+use Rattle.std.proofs.Common.{◌≡◌, ◌⊎◌, inl, inr, ℕ, ◌<◌, ◌≤◌, ◌^◌, Bool, true, false, IsTrue, List, length, Ok, Err, refl, sym, ap, subst, ◌∙◌, arith}
+use Rattle.std.proofs.lemmas.Bool.{cases_lt}
 use Rattle.bm_term.specs.declared.triple.Triple.{Triple}
-use Rattle.nt_read.specs.declared.lines.FeedFault.{FeedFault}
-use Rattle.nt_read.specs.declared.lines.FeedFault.TheVariants as feed_faults
-use Rattle.nt_read.specs.scanning.Lines.{first_bad}
+use Rattle.bm_term.specs.Graph.{graph_of}
+use Rattle.bm_term.specs.Kept.{Kept, HasTaken, after_all}
 use Rattle.run_rows.specs.declared.form.RowForm.TheVariants.{V1}
 use Rattle.term_numbers.specs.Limits.{max_triples}
 use Rattle.term_numbers.specs.Numbering.{Numbering, numbering_of}
-use Rattle.term_numbers.specs.declared.fault.NumberFault.{NumberFault}
-use Rattle.term_numbers.specs.declared.fault.NumberFault.TheVariants as number_faults
+use Rattle.term_numbers.specs.Sights.{nothing_yet}
+use Rattle.term_numbers.proofs.NumberLaws.{as_many_as_graph}
+use Rattle.term_numbers.proofs.SightLaws.{graph_of-first_sights, kept_unmarked, length-first_sights, marked_where_more}
 use Rattle.index_file.specs.Image.{image_of}
 use Rattle.index_file.specs.Version.{numbering_bytes}
 use Rattle.index_image.specs.declared.fault.ImageFault.{ImageFault}
@@ -16,60 +17,84 @@ use Rattle.index_image.specs.declared.fault.ImageFault.TheVariants as image_faul
 use Rattle.bm_top.specs.declared.undecided.Undecided.{Undecided}
 use Rattle.bm_top.specs.declared.undecided.Undecided.TheVariants as undecided
 use Rattle.bm_top.specs.declared.store.DataIndex.{DataIndex}
-use Rattle.bm_top.specs.Lines.{bad_line_line}
-use Rattle.bm_top.specs.Standard.{IsDecidedByData, IsStored}
+use Rattle.bm_top.specs.Lines.{bad_line_line, max_index_bytes}
+use Rattle.bm_top.specs.Standard.{AreNTriples, HasTooManyTriples, IsDecidedByData, IsGraphOf, IsStored}
 use Rattle.bm_top.specs.Texts.{stored_text}
 use Rattle.bm_top.specs.Verdict.{Verdict, refused, stores}
-use Rattle.bm_top.specs.steps.Data.{IsDataOf}
-use Rattle.bm_top.specs.steps.Undecided.{from_data, from_image, from_numbers}
+use Rattle.bm_top.specs.steps.Undecided.{from_image}
 use Rattle.bm_top.specs.steps.Ending.{Says}
 use Rattle.bm_top.specs.steps.Store.{HasNoIndex, IsIndexFor}
-use Rattle.bm_top.specs.steps.VerdictOf.{graph_in}
-use Rattle.bm_top.proofs.DataIndex.{graph_in-ascends, graph_in-rdf}
-use Rattle.bm_top.proofs.ReadData.{bad-read, read-bad, read-graph}
+use Rattle.bm_top.proofs.DataIndex.{graph_index}
+use Rattle.bm_top.proofs.ReadData.{bad-read, graph-is}
 use Rattle.bm_top.proofs.Verdicts.{bad_then, good_then, long_then, many_then}
 
--- the data was refused
-pub unread_data : (bytes : List ℕ) (fault : FeedFault) → IsDataOf bytes (Err fault) → HasNoIndex bytes (from_data fault)
-unread_data bytes (feed_faults.NotNTriples line) read = read-bad bytes line read
-unread_data bytes feed_faults.Memory read = tt
+-- what is not marked has no mark
+not_marked : (mark : Bool) → IsTrue mark → mark ≡ false → ⊥
+not_marked true marked is = absurd (cc)
+not_marked false marked is = absurd marked
 
--- there were too many triples
-pub many_triples : (bytes : List ℕ) (fault : NumberFault) → first_bad bytes ≡ None → (fault ≡ number_faults.TooManyTriples → max_triples < length (graph_in bytes)) → HasNoIndex bytes (from_numbers fault)
-many_triples bytes number_faults.TooManyTriples none many = record { graph = graph_in bytes; is_graph = read-graph bytes none; many = many refl }
-many_triples bytes number_faults.Memory none many = tt
+pub no_mark_where : (mark : Bool) → (IsTrue mark → ⊥) → mark ≡ false
+no_mark_where true none = absurd (none tt)
+no_mark_where false none = refl
 
--- the bytes of the numbering of a graph are its image
-numbered_image : (graph : List Triple) (numbers : Numbering) → numbers ≡ numbering_of graph → numbering_bytes V1 numbers ≡ image_of 1 V1 graph
-numbered_image graph numbers is = ap (numbering_bytes V1) is
+-- the triples of the data were taken, under their limit
+module _ (bytes : List ℕ) (triples : List Triple) (kept : Kept) (are : AreNTriples bytes triples) (taken : HasTaken (nothing_yet max_triples) kept triples) where
+  taken_graph : IsGraphOf bytes (graph_of triples)
+  taken_graph = record { triples = triples; are_triples = are; is_graph = (graph-is triples (graph_of triples)).1 refl }
 
--- the image is too long
-pub long_image : (bytes : List ℕ) (numbers : Numbering) (fault : ImageFault) → first_bad bytes ≡ None → length (graph_in bytes) ≤ max_triples → numbers ≡ numbering_of (graph_in bytes)
-    → (fault ≡ image_faults.TooLong → 2 ^ 32 ≤ length (numbering_bytes V1 numbers)) → HasNoIndex bytes (from_image fault)
-long_image bytes numbers image_faults.TooLong none few is long =
-    let over : 2 ^ 32 ≤ length (image_of 1 V1 (graph_in bytes)) = subst (λ (image : List ℕ). 2 ^ 32 ≤ length image) (numbered_image (graph_in bytes) numbers is) (long refl) in
-    record { graph = graph_in bytes; is_graph = read-graph bytes none; few = few; long = omega (arith, over) }
-long_image bytes numbers image_faults.Memory none few is long = tt
+  -- there were more
+  pub many_taken : IsTrue kept.were_more → HasTooManyTriples bytes
+  many_taken marked =
+      let more = (marked_where_more max_triples triples).0 (subst (λ (k : Kept). IsTrue k.were_more) taken marked) in
+      record { graph = graph_of triples; is_graph = taken_graph; many = omega (arith, more, length-first_sights triples) }
 
--- the image is made
-pub made_image : (bytes : List ℕ) (numbers : Numbering) (made : DataIndex) → first_bad bytes ≡ None → length (graph_in bytes) ≤ max_triples → numbers ≡ numbering_of (graph_in bytes)
-    → made.bytes.items ≡ numbering_bytes V1 numbers → length made.bytes.items < 2 ^ 32 → made.triples ≡ length (graph_in bytes) → IsIndexFor bytes made
-made_image bytes numbers made none few is spelled short count =
-    let image : made.bytes.items ≡ image_of 1 V1 (graph_in bytes) = spelled ∙ numbered_image (graph_in bytes) numbers is in
-    record {
-      graph = graph_in bytes;
-      is_graph = read-graph bytes none;
-      is_index = record {
-        storable = record {
-          ascends = graph_in-ascends bytes;
-          triples = graph_in-rdf bytes;
-          few = few;
-          short = subst (λ (i : List ℕ). length i < 2 ^ 32) image short;
-        };
-        spelled = image;
-      };
-      count = count;
-    }
+  module _ (unmarked : kept.were_more ≡ false) where
+    no_mark : (after_all (nothing_yet max_triples) triples).were_more ≡ false
+    no_mark = sym (ap (λ (k : Kept). k.were_more) taken) ∙ unmarked
+
+    few_or : (max_triples < length (graph_of triples)) ⊎ (length (graph_of triples) ≤ max_triples) → length (graph_of triples) ≤ max_triples
+    few_or (inl more) =
+        let marked : IsTrue (after_all (nothing_yet max_triples) triples).were_more = (marked_where_more max_triples triples).1 (omega (arith, more, length-first_sights triples)) in
+        absurd (not_marked (after_all (nothing_yet max_triples) triples).were_more marked no_mark)
+    few_or (inr few) = few
+
+    pub few_taken : length (graph_of triples) ≤ max_triples
+    few_taken = few_or (cases_lt max_triples (length (graph_of triples)))
+
+    -- they have the graph of what was kept
+    pub same_graph : graph_of kept.list ≡ graph_of triples
+    same_graph = ap (λ (k : Kept). graph_of k.list) taken ∙ ap graph_of (kept_unmarked max_triples triples no_mark) ∙ graph_of-first_sights triples
+
+    module _ (numbers : Numbering) (is : numbers ≡ numbering_of (graph_of kept.list)) where
+      numbered : numbers ≡ numbering_of (graph_of triples)
+      numbered = is ∙ ap numbering_of same_graph
+
+      -- the image of their numbers is that of their graph
+      numbered_image : numbering_bytes V1 numbers ≡ image_of 1 V1 (graph_of triples)
+      numbered_image = ap (numbering_bytes V1) numbered
+
+      pub few_numbered : length numbers.triples ≤ max_triples
+      few_numbered = omega (arith, few_taken, ap (λ (n : Numbering). length n.triples) numbered, as_many_as_graph triples)
+
+      -- it is too long
+      pub long_image : (fault : ImageFault) → (fault ≡ image_faults.TooLong → 2 ^ 32 ≤ length (numbering_bytes V1 numbers)) → HasNoIndex bytes (from_image fault)
+      long_image image_faults.TooLong long =
+          let over : 2 ^ 32 ≤ length (image_of 1 V1 (graph_of triples)) = subst (λ (image : List ℕ). 2 ^ 32 ≤ length image) numbered_image (long refl) in
+          record { graph = graph_of triples; is_graph = taken_graph; few = few_taken; long = omega (arith, over) }
+      long_image image_faults.Memory long = tt
+
+      -- it is made
+      pub made_image : (made : DataIndex) → made.bytes.items ≡ numbering_bytes V1 numbers → length made.bytes.items < 2 ^ 32 → made.triples ≡ length numbers.triples → IsIndexFor bytes made
+      made_image made spelled short count =
+          let image : made.bytes.items ≡ image_of 1 V1 (graph_of triples) = spelled ∙ numbered_image in
+          let within : length (image_of 1 V1 (graph_of triples)) ≤ max_index_bytes = omega (arith, short, ap length image) in
+          let index = graph_index bytes (graph_of triples) taken_graph few_taken within in
+          record {
+            graph = graph_of triples;
+            is_graph = taken_graph;
+            is_index = record { storable = index.storable; spelled = image };
+            count = count ∙ ap (λ (n : Numbering). length n.triples) numbered ∙ as_many_as_graph triples;
+          }
 
 -- what data without an index decides
 pub Says-no_index : (bytes : List ℕ) (Next : List Triple → List ℕ → Verdict → Type 0) (why : Undecided) (verdict : Verdict) → HasNoIndex bytes why → IsDecidedByData bytes Next verdict → Says why verdict

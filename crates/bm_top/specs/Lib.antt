@@ -1,6 +1,7 @@
 pub mod Args
 pub mod Command
 pub mod Lines
+pub mod Pieces
 pub mod Run
 pub mod Standard
 pub mod Texts

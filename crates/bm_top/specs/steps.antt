@@ -1,6 +1,6 @@
-pub mod Data
 pub mod Ending
 pub mod Over
+pub mod Pieces
 pub mod Printing
 pub mod Requested
 pub mod Store

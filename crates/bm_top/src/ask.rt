@@ -1,19 +1,26 @@
 //! The steps of `ask`, one call of the outside a function.
-ghost use Rattle.std.specs.Prelude.{[], ◌∷◌};
+ghost use Rattle.std.specs.Prelude.{[], ◌∷◌, ℕ, List};
 ghost use Rattle.bm_world.specs.World.{Step};
+ghost use Rattle.term_numbers.specs.Limits.{max_triples};
+ghost use Rattle.term_numbers.specs.Sights.{nothing_yet};
 ghost use Rattle.bm_top.specs.Lines.{max_query_bytes};
+ghost use Rattle.bm_top.specs.Pieces.{IsReadAs};
 ghost use Rattle.bm_top.specs.Standard.{IsAnswerOrRefusal, IsAskVerdict, IsDecidedBy, IsDecidedByData};
 ghost use Rattle.bm_top.specs.steps.Ending.{Ends, HasReason, Moves};
+ghost use Rattle.bm_top.specs.steps.Pieces.{WereRead};
 
 use crate::ending::Ending;
 use crate::index_steps::print_answers;
+use crate::reading::read_pieces;
 use crate::steps::{MAX_DATA_BYTES, MAX_QUERY_BYTES, read_ending, undecided_ending};
 use crate::store::data_index;
 use bm_world::{World, read_all};
 use index_file::Index;
+use nt_read::Reader;
 use result_write::Form;
 use std::alloc::Global;
 use std::hash::BuildHasher;
+use term_numbers::{Builder, MAX_TRIPLES};
 
 /// Answers the query of one file over the data of another.
 pub(crate) fn ask<'a, W: World, S: BuildHasher + Copy + Drop>(
@@ -29,48 +36,54 @@ pub(crate) fn ask<'a, W: World, S: BuildHasher + Copy + Drop>(
         (W.told world.old) (W.faults world.old) (W.faults world.new) result }
     ensures moves { Step (W.told world.old) (W.told world.new) (Moves («data».now ∷ query.now ∷ [])) }
 {
-    match read_all(alloc, world, data, MAX_DATA_BYTES) {
-        Ok(bytes) => ask_of_data(alloc, hashers, bytes, query, form, world),
+    let mut triples = Builder::with_hasher(alloc, hashers, MAX_TRIPLES);
+    match read_pieces(alloc, world, data, MAX_DATA_BYTES, &mut Reader::new(alloc), &mut triples) {
+        Ok(bad) => ask_of_data(alloc, bad, triples, query, form, world),
         Err(end) => read_ending(end, data, MAX_DATA_BYTES),
     }
 }
 
 // The steps that are left when the data has been read.
-fn ask_of_data<'a, W: World, S: BuildHasher + Copy + Drop>(
+fn ask_of_data<'a, W: World, S: BuildHasher + Drop>(
     alloc: Global,
-    hashers: S,
-    data: Vec<u8>,
+    bad: Option<u64>,
+    triples: Builder<S>,
     query: &'a str,
     form: Form,
     world: &mut W,
 ) -> Ending<'a>
-    ensures step { Step (W.told world.old) (W.told world.new) (λ m n. Ends (IsDecidedBy m.files query.now max_query_bytes (λ text. IsDecidedByData «data».items (λ graph _. IsAnswerOrRefusal form text graph))) result m n) }
-    ensures reason { HasReason (λ files. IsDecidedBy files query.now max_query_bytes (λ text. IsDecidedByData «data».items (λ graph _. IsAnswerOrRefusal form text graph))) (query.now ∷ [])
+    requires { WereRead bad.entry triples }
+    ensures step { Step (W.told world.old) (W.told world.new) (λ m n. (bytes : List ℕ) → IsReadAs bytes bad.entry (nothing_yet max_triples) triples →
+        Ends (IsDecidedBy m.files query.now max_query_bytes (λ text. IsDecidedByData bytes (λ graph _. IsAnswerOrRefusal form text graph))) result m n) }
+    ensures reason { (bytes : List ℕ) → IsReadAs bytes bad.entry (nothing_yet max_triples) triples →
+        HasReason (λ files. IsDecidedBy files query.now max_query_bytes (λ text. IsDecidedByData bytes (λ graph _. IsAnswerOrRefusal form text graph))) (query.now ∷ [])
         (W.told world.old) (W.faults world.old) (W.faults world.new) result }
     ensures moves { Step (W.told world.old) (W.told world.new) (Moves (query.now ∷ [])) }
 {
     match read_all(alloc, world, query, MAX_QUERY_BYTES) {
-        Ok(text) => print_decided(alloc, hashers, data, &text, form, world),
+        Ok(text) => print_decided(alloc, bad, triples, &text, form, world),
         Err(end) => read_ending(end, query, MAX_QUERY_BYTES),
     }
 }
 
 // The steps that are left when both files have been read: the index of the data is made, as `load` makes it, and the query
 // is answered over it.
-fn print_decided<'a, W: World, S: BuildHasher + Copy + Drop>(
+fn print_decided<'a, W: World, S: BuildHasher + Drop>(
     alloc: Global,
-    hashers: S,
-    data: Vec<u8>,
+    bad: Option<u64>,
+    triples: Builder<S>,
     text: &[u8],
     form: Form,
     world: &mut W,
 ) -> Ending<'a>
-    ensures step { Step (W.told world.old) (W.told world.new) (λ m n. Ends (IsDecidedByData «data».items (λ graph _. IsAnswerOrRefusal form text.now graph)) result m n) }
-    ensures reason { HasReason (λ files. IsDecidedByData «data».items (λ graph _. IsAnswerOrRefusal form text.now graph)) ([])
+    requires { WereRead bad.entry triples }
+    ensures step { Step (W.told world.old) (W.told world.new) (λ m n. (bytes : List ℕ) → IsReadAs bytes bad.entry (nothing_yet max_triples) triples →
+        Ends (IsDecidedByData bytes (λ graph _. IsAnswerOrRefusal form text.now graph)) result m n) }
+    ensures reason { HasReason (λ files verdict. ⊥) []
         (W.told world.old) (W.faults world.old) (W.faults world.new) result }
     ensures moves { Step (W.told world.old) (W.told world.new) (Moves ([])) }
 {
-    match data_index(alloc, hashers, data) {
+    match data_index(alloc, bad, triples) {
         Ok(made) => print_answers(alloc, &Index::view(&made.bytes), text, form, world),
         Err(undecided) => undecided_ending(undecided),
     }

@@ -1,18 +1,25 @@
 //! The steps of `load`, one call of the outside a function.
-ghost use Rattle.std.specs.Prelude.{◌≡◌, [], ◌∷◌, length, IfSome};
+ghost use Rattle.std.specs.Prelude.{◌≡◌, ℕ, List, [], ◌∷◌, length, IfSome};
 ghost use Rattle.bm_world.specs.World.{NothingIsMade, Step};
+ghost use Rattle.term_numbers.specs.Limits.{max_triples};
+ghost use Rattle.term_numbers.specs.Sights.{nothing_yet};
+ghost use Rattle.bm_top.specs.Pieces.{IsReadAs};
 ghost use Rattle.bm_top.specs.Standard.{IsDecidedByData, IsLoadVerdict, IsStored};
 ghost use Rattle.bm_top.specs.Texts.{stored_text};
 ghost use Rattle.bm_top.specs.Verdict.{stores};
 ghost use Rattle.bm_top.specs.steps.Ending.{Ends, EndsSo, HasReason, Moves};
+ghost use Rattle.bm_top.specs.steps.Pieces.{WereRead};
 
 use crate::ending::Ending;
+use crate::reading::read_pieces;
 use crate::steps::{MAX_DATA_BYTES, print_ending, read_ending, undecided_ending};
 use crate::store::{DataIndex, data_index};
 use crate::texts::print_stored;
-use bm_world::{Failed, World, read_all, write_all_of};
+use bm_world::{Failed, World, write_all_of};
+use nt_read::Reader;
 use std::alloc::Global;
 use std::hash::BuildHasher;
+use term_numbers::{Builder, MAX_TRIPLES};
 
 /// Writes the index of the data of one file to another. The two may be one.
 pub(crate) fn load<'a, W: World, S: BuildHasher + Copy + Drop>(
@@ -28,27 +35,30 @@ pub(crate) fn load<'a, W: World, S: BuildHasher + Copy + Drop>(
         (W.told world.old) (W.faults world.old) (W.faults world.new) result }
     ensures moves { Step (W.told world.old) (W.told world.new) (Moves («data».now ∷ [])) }
 {
-    match read_all(alloc, world, data, MAX_DATA_BYTES) {
-        Ok(bytes) => store_data(alloc, hashers, bytes, index, world),
+    let mut triples = Builder::with_hasher(alloc, hashers, MAX_TRIPLES);
+    match read_pieces(alloc, world, data, MAX_DATA_BYTES, &mut Reader::new(alloc), &mut triples) {
+        Ok(bad) => store_data(alloc, bad, triples, index, world),
         Err(end) => read_ending(end, data, MAX_DATA_BYTES),
     }
 }
 
 // The steps that are left when the data has been read. No file is begun before the whole index is in memory.
-fn store_data<'a, W: World, S: BuildHasher + Copy + Drop>(
+fn store_data<'a, W: World, S: BuildHasher + Drop>(
     alloc: Global,
-    hashers: S,
-    data: Vec<u8>,
+    bad: Option<u64>,
+    triples: Builder<S>,
     index: &str,
     world: &mut W,
 ) -> Ending<'a>
-    requires { IfSome (W.told world.old) NothingIsMade }
-    ensures step { Step (W.told world.old) (W.told world.new) (λ m n. Ends (IsDecidedByData «data».items (IsStored index.now)) result m n) }
-    ensures reason { HasReason (λ files. IsDecidedByData «data».items (IsStored index.now)) ([])
+    requires made { IfSome (W.told world.old) NothingIsMade }
+    requires read { WereRead bad.entry triples }
+    ensures step { Step (W.told world.old) (W.told world.new) (λ m n. (bytes : List ℕ) → IsReadAs bytes bad.entry (nothing_yet max_triples) triples →
+        Ends (IsDecidedByData bytes (IsStored index.now)) result m n) }
+    ensures reason { HasReason (λ files verdict. ⊥) []
         (W.told world.old) (W.faults world.old) (W.faults world.new) result }
     ensures moves { Step (W.told world.old) (W.told world.new) (Moves ([])) }
 {
-    match data_index(alloc, hashers, data) {
+    match data_index(alloc, bad, triples) {
         Ok(made) => write_index(&made, index, world),
         Err(undecided) => undecided_ending(undecided),
     }

@@ -1,13 +1,17 @@
 //! The index of some data, or why there is none.
+ghost use Rattle.std.specs.Prelude.{ℕ, List};
+ghost use Rattle.term_numbers.specs.Limits.{max_triples};
+ghost use Rattle.term_numbers.specs.Sights.{nothing_yet};
+ghost use Rattle.bm_top.specs.Pieces.{IsReadAs};
+ghost use Rattle.bm_top.specs.steps.Pieces.{WereRead};
 ghost use Rattle.bm_top.specs.steps.Store.{IsDataIndex};
 
-use crate::data::read_data;
 use crate::undecided::Undecided;
 use index_image::image;
 use run_rows::RowForm;
 use std::alloc::Global;
 use std::hash::BuildHasher;
-use term_numbers::{MAX_TRIPLES, number_by};
+use term_numbers::Builder;
 
 /// The index file of some data, and how many triples it has.
 #[derive(Debug, Drop)]
@@ -16,19 +20,20 @@ pub(crate) struct DataIndex {
     pub(crate) bytes: Vec<u8>,
 }
 
-/// The index of the data, whole, or why there is none: the first bad line, then too many triples, and then an image that
-/// is too long. The data is let go once its triples are read, and these once they are numbered.
-pub(crate) fn data_index<S: BuildHasher + Copy + Drop>(
+/// The index of data that was read, whole, or why there is none: the first bad line, then too many triples, and then an
+/// image that is too long.
+pub(crate) fn data_index<S: BuildHasher + Drop>(
     alloc: Global,
-    hashers: S,
-    data: Vec<u8>,
+    bad: Option<u64>,
+    triples: Builder<S>,
 ) -> Result<DataIndex, Undecided>
-    ensures { IsDataIndex «data».items result }
+    requires { WereRead bad.entry triples }
+    ensures { (bytes : List ℕ) → IsReadAs bytes bad.entry (nothing_yet max_triples) triples → IsDataIndex bytes result }
 {
-    let triples = read_data(alloc, &data)?;
-    drop(data);
-    let numbers = number_by(alloc, hashers, &triples, MAX_TRIPLES)?;
-    drop(triples);
+    if let Some(line) = bad {
+        return Err(Undecided::BadLine { line });
+    }
+    let numbers = triples.finish()?;
     let bytes = image(alloc, RowForm::V1, &numbers)?;
     Ok(DataIndex {
         triples: numbers.triples(),

@@ -2,7 +2,6 @@
 
 use crate::refusal::QueryRefusal;
 use index_image::ImageFault;
-use nt_read::FeedFault;
 use sparql_parse::QueryFault;
 use std::alloc::AllocError;
 use term_numbers::NumberFault;
@@ -15,20 +14,6 @@ pub(crate) enum Undecided {
     ImageTooLong,
     Query { refusal: QueryRefusal },
     Memory,
-}
-
-impl From<FeedFault> for Undecided {
-    ghost use Rattle.std.specs.Prelude.{◌≡◌};
-    ghost use Rattle.bm_top.specs.steps.Undecided.{from_data};
-
-    ghost from_gives = { λ fault undecided. undecided ≡ from_data fault };
-
-    fn from(fault: FeedFault) -> Self {
-        match fault {
-            FeedFault::NotNTriples { line } => Undecided::BadLine { line },
-            FeedFault::Memory => Undecided::Memory,
-        }
-    }
 }
 
 impl From<NumberFault> for Undecided {

@@ -6,14 +6,8 @@ use Rattle.term_numbers.specs.declared.fault.NumberFault.{NumberFault}
 use Rattle.term_numbers.specs.declared.fault.NumberFault.TheVariants as number_faults
 use Rattle.index_image.specs.declared.fault.ImageFault.{ImageFault}
 use Rattle.index_image.specs.declared.fault.ImageFault.TheVariants as image_faults
-use Rattle.nt_read.specs.declared.lines.FeedFault.{FeedFault}
-use Rattle.nt_read.specs.declared.lines.FeedFault.TheVariants as feed_faults
 use Rattle.sparql_parse.specs.declared.fault.QueryFault.{QueryFault}
 use Rattle.sparql_parse.specs.declared.fault.QueryFault.TheVariants as query_faults
-
-abbrev pub from_data : FeedFault → Undecided
-from_data (feed_faults.NotNTriples line) = undecided.BadLine line
-from_data feed_faults.Memory = undecided.Memory
 
 abbrev pub from_numbers : NumberFault → Undecided
 from_numbers number_faults.TooManyTriples = undecided.TooManyTriples
