@@ -1,5 +1,5 @@
-//! Tests of whole commands over a world in memory: words and files, each call of a run failing in turn, queries and data
-//! with the text that answers them, refusals with their lines, and indexes that are loaded, asked and checked.
+//! Tests of whole commands over a world in memory: queries and data, with the text that answers them in either form. What the
+//! crates of tests share is public: a `Stage` on which a command is run, and texts.
 #![tactic(auto)]
 
 mod asking;
@@ -8,18 +8,12 @@ mod checking;
 #[cfg(test)]
 mod data;
 #[cfg(test)]
-mod failures;
-#[cfg(test)]
-mod indexes;
-#[cfg(test)]
 mod json;
 #[cfg(test)]
 mod queries;
-#[cfg(test)]
-mod refusals;
 mod stage;
-#[cfg(test)]
-mod words;
+mod texts;
 
 pub use asking::{ANSWER, DATA, QUERY, files_of, status_of};
 pub use stage::Stage;
+pub use texts::{long_query, push_often, push_variables};

@@ -1,6 +1,7 @@
 //! Queries over the two triples, with their text.
 use crate::asking::DATA;
-use crate::checking::{check_answer, check_answers, long_query, push_often, push_variables};
+use crate::checking::{check_answer, check_answers};
+use crate::texts::{long_query, push_often, push_variables};
 use std::test::Fail;
 
 // Tables of queries over the two triples, a line each: a query, and the text that answers it. [TAB] and [LF] are written

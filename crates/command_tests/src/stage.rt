@@ -1,4 +1,6 @@
 //! A world in memory for a test.
+ghost use Rattle.std.specs.Prelude.{◌<◌};
+
 use crate::asking::{files_of, status_of};
 use bm_world::{MemWorld, WorldCall};
 use std::alloc::{AllocError, Global};
@@ -43,6 +45,13 @@ impl Stage {
     /// Schedules the k-th call of a kind to fail.
     pub fn fail_at(&mut self, call: WorldCall, k: u64) -> Result<(), AllocError> {
         self.world.fail_at(call, k)
+    }
+
+    /// From now on a call takes at most `n` bytes.
+    pub fn piece_at_most(&mut self, n: usize)
+        requires { 0 < n }
+    {
+        self.world.piece_at_most(n);
     }
 
     /// The status of these words. `Err` where memory runs out before the program has begun.

@@ -1,7 +1,6 @@
 //! Data and queries that are refused, with their lines.
-use crate::asking::{DATA, QUERY};
-use crate::checking::{check_refusal, check_refusals, long_query, push_variables};
-use crate::stage::Stage;
+use crate::checking::{check_refusal, check_refusals};
+use command_tests::{DATA, QUERY, Stage, long_query, push_variables};
 use std::test::Fail;
 
 /// A data file, a query, the status and the line on standard error.
@@ -58,11 +57,14 @@ const REFUSALS: [(&str, &str, u8, &str); 9] = [
 fn refusals_have_their_lines(rt: HostRuntime) -> Result<(), Fail> {
     let alloc = rt.alloc();
     for (data, query, wanted, line) in REFUSALS {
-        let mut world = Stage::with_files(alloc, data, query)?;
-        let status = world.ask(alloc, &["ask", "d", "q", "tsv"])?;
-        assert!(rt; status == wanted, "{data} {query}");
-        assert!(rt; world.printed().is_empty(), "{data} {query}");
-        assert!(rt; world.complained() == line.as_bytes(), "{data} {query}");
+        for piece in [65_536, 1] {
+            let mut world = Stage::with_files(alloc, data, query)?;
+            world.piece_at_most(piece);
+            let status = world.ask(alloc, &["ask", "d", "q", "tsv"])?;
+            assert!(rt; status == wanted, "{data} {query}");
+            assert!(rt; world.printed().is_empty(), "{data} {query}");
+            assert!(rt; world.complained() == line.as_bytes(), "{data} {query}");
+        }
     }
     Ok(())
 }

@@ -1,6 +1,5 @@
 //! The words of a command, and the files that it names.
-use crate::asking::QUERY;
-use crate::stage::Stage;
+use command_tests::{QUERY, Stage};
 use std::test::Fail;
 
 const USAGE: &str =

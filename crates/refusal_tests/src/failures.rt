@@ -1,6 +1,5 @@
 //! Each call of a run fails in turn.
-use crate::asking::{ANSWER, DATA, QUERY};
-use crate::stage::Stage;
+use command_tests::{ANSWER, DATA, QUERY, Stage};
 use bm_world::WorldCall;
 use std::test::Fail;
 

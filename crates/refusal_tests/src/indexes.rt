@@ -1,6 +1,5 @@
 //! Indexes that are loaded, asked and checked, and files that are none.
-use crate::asking::{ANSWER, DATA, QUERY};
-use crate::stage::Stage;
+use command_tests::{ANSWER, DATA, QUERY, Stage};
 use bm_world::WorldCall;
 use std::alloc::Global;
 use std::process::Abort;
@@ -30,11 +29,14 @@ fn does(
 #[test]
 fn an_index_is_loaded_asked_and_checked(rt: HostRuntime) -> Result<(), Fail> {
     let alloc = rt.alloc();
-    let mut world = Stage::with_files(alloc, DATA, QUERY)?;
-    does(&rt, alloc, &["load", "d", "i"], STORED, &mut world)?;
-    does(&rt, alloc, &["query", "i", "q", "tsv"], ANSWER, &mut world)?;
-    does(&rt, alloc, &["check", "i"], COUNTED, &mut world)?;
-    assert!(rt; world.file("d") == Some(DATA.as_bytes()));
+    for piece in [65_536, 1] {
+        let mut world = Stage::with_files(alloc, DATA, QUERY)?;
+        world.piece_at_most(piece);
+        does(&rt, alloc, &["load", "d", "i"], STORED, &mut world)?;
+        does(&rt, alloc, &["query", "i", "q", "tsv"], ANSWER, &mut world)?;
+        does(&rt, alloc, &["check", "i"], COUNTED, &mut world)?;
+        assert!(rt; world.file("d") == Some(DATA.as_bytes()));
+    }
     Ok(())
 }
 
