@@ -5,4 +5,5 @@ pub mod NumberingLaws
 pub mod RenumberLaws
 pub mod RoleLaws
 pub mod SeenLaws
+pub mod SightLaws
 pub mod TableLaws
