@@ -7,3 +7,4 @@ pub mod RoleLaws
 pub mod SeenLaws
 pub mod SightLaws
 pub mod TableLaws
+pub mod TakingLaws

@@ -1,7 +1,8 @@
 -- Distinct triples in the order of first sight, and what is kept of a list under a limit.
-use Rattle.std.proofs.Common.{◌≡◌, ◌↔◌, ℕ, ◌+◌, ◌<◌, ◌≤◌, ◌==◌, ◌⊎◌, inl, inr, Bool, true, false, ◌&&◌, ◌||◌, if◌then◌else◌, bytes_eq, List, [], ◌∷◌, ◌++◌, Some, Contains, length, IsTrue, refl, sym, ap, ◌∙◌, subst, arith, true≢false, length-append}
+use Rattle.std.proofs.Common.{◌≡◌, ◌↔◌, ℕ, ◌+◌, ◌<◌, ◌≤◌, ◌==◌, ◌⊎◌, inl, inr, Bool, true, false, ◌&&◌, ◌||◌, if◌then◌else◌, bytes_eq, List, [], ◌∷◌, ◌++◌, Some, Contains, length, take, get_or, IsTrue, Result, Ok, Err, IfOk, OnOk, IfErr, refl, sym, ap, ◌∙◌, subst, arith, true≢false, length-append}
 use Rattle.std.proofs.lemmas.Bool.{eqb-true, eqb-false}
 use Rattle.std.proofs.lemmas.Bool.Decides.{Decides-and}
+use Rattle.std.proofs.lemmas.List.{take_more}
 use Rattle.std.proofs.lemmas.List.Folds.{list_any-append}
 use Rattle.std.proofs.lemmas.Map.Keys.{IsDistinct-push}
 use Rattle.std.proofs.lemmas.Map.Made.{is_member-Decides, length-from_keys, IsDistinct-from_AllPairs}
@@ -16,8 +17,12 @@ use Rattle.bm_term.specs.Graph.{triple_cmp, graph_of}
 use Rattle.bm_term.specs.Kept.{Kept, triple_eq, after, after_all}
 use Rattle.bm_term.specs.declared.triple.Triple.{Triple}
 use Rattle.bm_term.proofs.Sets.{AllPairs-ascending}
+use Rattle.bm_term.proofs.Taking.{after_all-append}
 use Rattle.bm_term.proofs.TripleOrder.{triple_cmp-total, triple_cmp-exact}
+use Rattle.term_numbers.specs.Numbering.{Numbering, numbering_of}
 use Rattle.term_numbers.specs.Sights.{first_sights, nothing_yet}
+use Rattle.term_numbers.specs.declared.fault.NumberFault.{NumberFault}
+use Rattle.term_numbers.specs.declared.fault.NumberFault.TheVariants.{TooManyTriples}
 use Rattle.term_numbers.proofs.Ascending.{set_of-is, set_of-same}
 
 -- ---- the test of triples
@@ -108,7 +113,7 @@ length-first_sights ts =
 
 -- ---- what is kept
 
-abbrev kept_with : ℕ → List Triple → Bool → Kept
+abbrev pub kept_with : ℕ → List Triple → Bool → Kept
 kept_with limit list were_more = record { list = list; limit = Some limit; were_more = were_more }
 
 -- with the mark nothing changes
@@ -150,3 +155,51 @@ kept_unmarked limit ts none = by (outcome limit [] ts (omega arith))
     by : IsOutcome limit (after_all (nothing_yet limit) ts) (first_sights ts) → (after_all (nothing_yet limit) ts).list ≡ first_sights ts
     by (inl all) = all.1
     by (inr many) = absurd (true≢false (sym many.0 ∙ none))
+
+-- one triple more of a list
+pub after_all-step : (start kept kept' : Kept) (ts : List Triple) (i : ℕ) (t : Triple) → i < length ts → t ≡ get_or ts i t → kept ≡ after_all start (take i ts) → kept' ≡ after kept t → kept' ≡ after_all start (take (i + 1) ts)
+after_all-step start kept kept' ts i t low is before now =
+    now ∙ ap (λ k. after k t) before ∙ sym (after_all-append start (take i ts) (t ∷ []))
+    ∙ ap (after_all start) (sym (take_more ts i t low ∙ ap (λ u. take i ts ++ u ∷ []) (sym is)))
+
+-- ---- what is answered for a list
+
+module _ (limit : ℕ) (ts : List Triple) (kept : Kept) (is : kept ≡ after_all (nothing_yet limit) ts) (r : Result Numbering NumberFault)
+    (numbered : IfOk r (λ numbers. numbers ≡ numbering_of (graph_of kept.list))) (many : (r ≡ Err TooManyTriples) ↔ IsTrue kept.were_more) where
+  -- where there is an answer, all are kept
+  all_kept : (numbers : Numbering) → r ≡ Ok numbers → (kept.list ≡ first_sights ts) × (length (first_sights ts) ≤ limit)
+  all_kept numbers answered = by (outcome limit [] ts (omega arith))
+    where
+      clash : r ≡ Ok numbers → r ≡ Err TooManyTriples → ⊥
+      clash e d = cc
+
+      by : IsOutcome limit (after_all (nothing_yet limit) ts) (first_sights ts) → (kept.list ≡ first_sights ts) × (length (first_sights ts) ≤ limit)
+      by (inl all) = (ap (λ (k : Kept). k.list) is ∙ all.1, all.2)
+      by (inr marked) = absurd (clash answered (many.1 (ap (λ (k : Kept). k.were_more) is ∙ marked.0)))
+
+  -- so it is the numbering of the graph
+  pub answer_numbers : IfOk r (λ numbers. numbers ≡ numbering_of (graph_of ts))
+  answer_numbers = by r refl numbered
+    where
+      by : (q : Result Numbering NumberFault) → r ≡ q → IfOk q (λ numbers. numbers ≡ numbering_of (graph_of kept.list)) → IfOk q (λ numbers. numbers ≡ numbering_of (graph_of ts))
+      by (Ok numbers) e h = h ∙ ap numbering_of (ap graph_of (all_kept numbers e).0 ∙ graph_of-first_sights ts)
+      by (Err fault) e h = tt
+
+  -- whose triples are within the limit
+  pub answer_few : OnOk r (length (graph_of ts) ≤ limit)
+  answer_few = by r refl
+    where
+      by : (q : Result Numbering NumberFault) → r ≡ q → OnOk q (length (graph_of ts) ≤ limit)
+      by (Ok numbers) e = let few = (all_kept numbers e).1 in omega (arith, few, length-first_sights ts)
+      by (Err fault) e = tt
+
+  -- and too many are more than the limit
+  pub answer_many : IfErr r (λ fault. fault ≡ TooManyTriples → limit < length (graph_of ts))
+  answer_many = by r refl
+    where
+      by : (q : Result Numbering NumberFault) → r ≡ q → IfErr q (λ fault. fault ≡ TooManyTriples → limit < length (graph_of ts))
+      by (Ok numbers) e = tt
+      by (Err fault) e = λ same.
+          let marked = ap (λ (k : Kept). k.were_more) (sym is) ∙ many.0 (e ∙ ap Err same) in
+          let more = (marked_where_more limit ts).0 marked in
+          omega (arith, more, length-first_sights ts)

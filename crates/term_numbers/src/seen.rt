@@ -1,6 +1,6 @@
 //! Triples by places: each text has the place at which it was first seen, nodes and predicates each among themselves.
 ghost use Rattle.std.specs.Prelude.{◌≡◌, IfOk, OnErr};
-ghost use Rattle.term_numbers.specs.held.Seen.{IsPlaced, Grows, SeesTriple};
+ghost use Rattle.term_numbers.specs.held.Seen.{IsPlaced, Adds, SeesTriple};
 
 use crate::fault::number_from;
 use bm_term::{Term, Triple};
@@ -17,7 +17,7 @@ pub(crate) fn see_triple<S: BuildHasher>(
     triple: &Triple,
 ) -> Result<(u32, u32, u32), AllocError>
     ensures seen { IfOk result (λ places. SeesTriple nodes.old.keys nodes.new.keys predicates.old.keys predicates.new.keys places triple.now) }
-    ensures grows { Grows nodes.old.keys nodes.new.keys }
+    ensures adds { Adds nodes.old.keys nodes.new.keys }
     ensures stays { OnErr result (predicates.new.keys ≡ predicates.old.keys) }
 {
     let subject = place_near(nodes, last.0, &triple.subject)?;
@@ -51,7 +51,7 @@ fn place_in<S: BuildHasher>(
     ensures placed { IfOk result (IsPlaced terms.old.keys terms.new.keys term.now) }
     ensures stays { OnErr result (terms.new.keys ≡ terms.old.keys) }
 {
-    if let Some((place, _)) = terms.get_full(term) {
+    if let Some(place) = terms.get_index_of(term) {
         return number_from(place);
     }
     let place = number_from(terms.len())?;
