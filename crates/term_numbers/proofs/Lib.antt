@@ -5,4 +5,6 @@ pub mod NumberingLaws
 pub mod RenumberLaws
 pub mod RoleLaws
 pub mod SeenLaws
+pub mod SightLaws
 pub mod TableLaws
+pub mod TakingLaws

@@ -288,6 +288,3 @@ as_many g sorted =
     } in
     let again : g ≡ set_of triple_cmp (map h numbers) = one_set triple_cmp triple_cmp-total triple_cmp-exact (map h numbers) g back in
     omega (arith, length-set_of number_cmp (map f g), length-map g f, length-set_of triple_cmp (map h numbers), ap length again, length-map numbers h)
-
-pub as_many_as_graph : (ts : List Triple) → length (numbering_of (graph_of ts)).triples ≡ length (graph_of ts)
-as_many_as_graph ts = as_many (graph_of ts) (set_of-is triple_cmp triple_cmp-total triple_cmp-exact ts).ascends

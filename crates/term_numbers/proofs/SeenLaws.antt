@@ -1,15 +1,21 @@
 -- Laws of texts and triples in the order of first sight.
-use Rattle.std.proofs.Common.{◌≡◌, ℕ, zero, suc, ◌⊎◌, inl, inr, Bool, true, false, bytes_eq, List, [], ◌∷◌, ◌++◌, Some, if◌then◌else◌, Contains, map, sym, ◌∙◌, ap, subst, append_assoc, append-nil, ◌<◌, ◌≤◌, ◌+◌, length, take, get_or, All}
-use Rattle.std.proofs.lemmas.List.{take_more, take_all, map-append}
-use Rattle.std.proofs.lemmas.List.Elements.{All-nil, All-cons, Contains-push_cases, Contains-push, Contains-append_left}
-use Rattle.std.specs.Cmp.Lexicographic.{same_text}
-use Rattle.std.specs.List.{slice_get, list_any}
+use Rattle.std.proofs.Common.{◌≡◌, ℕ, zero, suc, ◌⊎◌, inl, inr, Bool, true, false, bytes_eq, List, [], ◌∷◌, ◌++◌, Some, if◌then◌else◌, Contains, map, refl, sym, ◌∙◌, ap, subst, append_assoc, append-nil, length-append, arith, ◌<◌, length, get_or, All, Result, Ok, Err, IfOk}
+use Rattle.std.proofs.lemmas.List.{get_or_append_left}
+use Rattle.std.proofs.lemmas.List.Elements.{All-head, All-tail, All-weaker, Contains-push_cases}
+use Rattle.std.proofs.lemmas.List.Quantifiers.{position-Some}
+use Rattle.std.proofs.lemmas.Map.Keys.{IsDistinct-push}
+use Rattle.std.proofs.lemmas.Option.{slice_get-get_or, get_or_from_slice_get}
+use Rattle.std.specs.Cmp.Lexicographic.{same_text, nat_list_eq_equiv}
+use Rattle.std.specs.List.{slice_get, list_any, position, IsDistinct}
 use Rattle.indexmap.specs.IndexSet.{insert_key}
 use Rattle.bm_term.specs.declared.triple.Triple.{Triple}
+use Rattle.bm_term.specs.Graph.{graph_of}
+use Rattle.term_numbers.specs.Numbering.{Numbering, numbering_of}
 use Rattle.term_numbers.specs.Order.{Numbered}
+use Rattle.term_numbers.specs.held.Numbered.{AreNumbersFor}
 use Rattle.term_numbers.specs.held.Renumbered.{PlacesAreBelow}
+use Rattle.term_numbers.specs.held.Seen.{Adds, IsPlaced, IsSeen, AreSeen, SeesTriple, IsSeenWhole, triple_at, triples_at, AllAreSeen}
 use Rattle.term_numbers.proofs.EntryLaws.{place_inside}
-use Rattle.term_numbers.specs.held.Seen.{IsPlaced, IsSeen, AreSeen, SeesTriple, IsSeenWhole}
 
 -- what is at a place stays there where more is put at the end
 pub slice_get-append : {X : Type 0} (xs more : List X) (i : ℕ) (x : X) → slice_get xs i ≡ Some x → slice_get (xs ++ more) i ≡ Some x
@@ -17,111 +23,154 @@ slice_get-append [] more i x h = cc
 slice_get-append (y ∷ xs) more zero x h = h
 slice_get-append (y ∷ xs) more (suc i) x h = slice_get-append xs more i x h
 
--- a text that is put into a set has a place there
-pub IsPlaced-insert : (old new : List (List ℕ)) (text : List ℕ) (place : ℕ) → new ≡ insert_key bytes_eq old text → (k : List ℕ) × (slice_get new place ≡ Some k) × (bytes_eq text k ≡ true) → IsPlaced old new text place
-IsPlaced-insert old new text place is stored = record {
-  at = stored.1 ∙ ap Some (sym (same_text text stored.0 (sym stored.2)));
-  grows = grown (list_any (bytes_eq text) old) is;
-  only = λ x. only_it (list_any (bytes_eq text) old) x is;
-}
-  where
-    grown : (b : Bool) → new ≡ (if b then old else old ++ text ∷ []) → (more : List (List ℕ)) × (new ≡ old ++ more)
-    grown true e = ([], e ∙ sym (append-nil old))
-    grown false e = (text ∷ [], e)
+-- ---- texts with places
 
-    only_it : (b : Bool) (x : List ℕ) → new ≡ (if b then old else old ++ text ∷ []) → Contains new x → Contains old x ⊎ (x ≡ text)
-    only_it true x e there = inl (subst (λ l. Contains l x) e there)
-    only_it false x e there = elim (Contains-push_cases old text x (subst (λ l. Contains l x) e there)) as (λ _. Contains old x ⊎ (x ≡ text)) [ inl before ↦ inl before | inr same ↦ inr (sym same) ]
+-- nothing more
+pub Adds-none : (old new : List (List ℕ)) → new ≡ old → Adds old new
+Adds-none old new same = record {
+  more = [];
+  is = same ∙ sym (append-nil old);
+  differ = λ h. subst (IsDistinct bytes_eq) (sym same) h;
+}
+
+-- some more, and some more
+pub Adds-trans : (a b c : List (List ℕ)) → Adds a b → Adds b c → Adds a c
+Adds-trans a b c h k = record {
+  more = h.more ++ k.more;
+  is = k.is ∙ ap (λ l. l ++ k.more) h.is ∙ append_assoc a h.more k.more;
+  differ = λ d. k.differ (h.differ d);
+}
 
 -- a text that is found at a place has it
 pub IsPlaced-found : (old : List (List ℕ)) (text found : List ℕ) (place : ℕ) → slice_get old place ≡ Some found → found ≡ text → IsPlaced old old text place
 IsPlaced-found old text found place at same = record {
   at = at ∙ ap Some same;
-  grows = ([], sym (append-nil old));
+  adds = Adds-none old old refl;
   only = λ x there. inl there;
 }
 
--- the three terms of a triple have places
-pub SeesTriple-placed : (n n' n'' p p' : List (List ℕ)) (x y z : List ℕ) (i j k : ℕ) (t : Triple) → x ≡ t.subject → y ≡ t.predicate → z ≡ t.object
-    → IsPlaced n n' x i → IsPlaced p p' y j → IsPlaced n' n'' z k → SeesTriple n n'' p p' (i, j, k) t
-SeesTriple-placed n n' n'' p p' x y z i j k t ex ey ez s q o = record {
-  seen = record {
-    subject = subst (λ l. slice_get l i ≡ Some t.subject) (sym o.grows.1) (slice_get-append n' o.grows.0 i t.subject (s.at ∙ ap Some ex));
-    predicate = q.at ∙ ap Some ey;
-    object = o.at ∙ ap Some ez;
-  };
-  nodes_grow = (s.grows.0 ++ o.grows.0, o.grows.1 ∙ ap (λ l. l ++ o.grows.0) s.grows.1 ∙ append_assoc n s.grows.0 o.grows.0);
-  predicates_grow = q.grows;
-  only = λ w there. elim (q.only w there) as (λ _. Contains p w ⊎ (w ≡ t.predicate)) [ inl before ↦ inl before | inr same ↦ inr (same ∙ ey) ];
-}
+-- and so has one that a search finds
+pub IsPlaced-position : (old : List (List ℕ)) (text : List ℕ) (place : ℕ) → position (bytes_eq text) old ≡ Some place → IsPlaced old old text place
+IsPlaced-position old text place is =
+    let found = position-Some (bytes_eq text) old place text is in
+    IsPlaced-found old text (get_or old place text) place (slice_get-get_or old place text found.0) (sym (same_text text (get_or old place text) (sym found.1)))
 
--- what was seen stays so where more texts are put at the end
-IsSeen-grows : (n p more more' : List (List ℕ)) (places : Numbered) (t : Triple) → IsSeen n p places t → IsSeen (n ++ more) (p ++ more') places t
-IsSeen-grows n p more more' places t h = record {
-  subject = slice_get-append n more places.0 t.subject h.subject;
-  predicate = slice_get-append p more' places.1 t.predicate h.predicate;
-  object = slice_get-append n more places.2 t.object h.object;
-}
+pub IsPlaced-told : {E : Type 0} (old : List (List ℕ)) (text : List ℕ) (place : ℕ) (r : Result ℕ E) → position (bytes_eq text) old ≡ Some place → IfOk r (λ number. number ≡ place) → IfOk r (IsPlaced old old text)
+IsPlaced-told old text place (Ok number) is told = subst (IsPlaced old old text) (sym told) (IsPlaced-position old text place is)
+IsPlaced-told old text place (Err fault) is told = tt
 
-AreSeen-grows : (n p more more' : List (List ℕ)) (ps : List Numbered) (ts : List Triple) → AreSeen n p ps ts → AreSeen (n ++ more) (p ++ more') ps ts
-AreSeen-grows n p more more' [] [] h = tt
-AreSeen-grows n p more more' [] (t ∷ ts) h = absurd h
-AreSeen-grows n p more more' (q ∷ ps) [] h = absurd h
-AreSeen-grows n p more more' (q ∷ ps) (t ∷ ts) h = (IsSeen-grows n p more more' q t h.0, AreSeen-grows n p more more' ps ts h.1)
-
--- one triple more
-AreSeen-push : (n p : List (List ℕ)) (ps : List Numbered) (ts : List Triple) (q : Numbered) (t : Triple) → AreSeen n p ps ts → IsSeen n p q t → AreSeen n p (ps ++ q ∷ []) (ts ++ t ∷ [])
-AreSeen-push n p [] [] q t h one = (one, tt)
-AreSeen-push n p [] (u ∷ ts) q t h one = absurd h
-AreSeen-push n p (r ∷ ps) [] q t h one = absurd h
-AreSeen-push n p (r ∷ ps) (u ∷ ts) q t h one = (h.0, AreSeen-push n p ps ts q t h.1 one)
-
-pub AreSeen-more : (n n' p p' : List (List ℕ)) (ps : List Numbered) (ts : List Triple) (q : Numbered) (t : Triple) → AreSeen n p ps ts → SeesTriple n n' p p' q t → AreSeen n' p' (ps ++ q ∷ []) (ts ++ t ∷ [])
-AreSeen-more n n' p p' ps ts q t h one =
-    let grown = AreSeen-grows n p one.nodes_grow.0 one.predicates_grow.0 ps ts h in
-    let here : AreSeen n' p' ps ts = subst (λ l. AreSeen l p' ps ts) (sym one.nodes_grow.1) (subst (λ l. AreSeen (n ++ one.nodes_grow.0) l ps ts) (sym one.predicates_grow.1) grown) in
-    AreSeen-push n' p' ps ts q t here one.seen
-
--- and each predicate is still that of a triple
-pub predicates-more : (n n' p p' : List (List ℕ)) (ts : List Triple) (q : Numbered) (t : Triple) → ((x : List ℕ) → Contains p x → Contains (map (λ t. t.predicate) ts) x)
-    → SeesTriple n n' p p' q t → (x : List ℕ) → Contains p' x → Contains (map (λ t. t.predicate) ts ++ t.predicate ∷ []) x
-predicates-more n n' p p' ts q t only one x there = elim (one.only x there) as (λ _. Contains (map (λ t. t.predicate) ts ++ t.predicate ∷ []) x) [
-  | inl before ↦ Contains-append_left (map (λ t. t.predicate) ts) (t.predicate ∷ []) x (only x before)
-  | inr same ↦ subst (Contains (map (λ t. t.predicate) ts ++ t.predicate ∷ [])) (sym same) (Contains-push (map (λ t. t.predicate) ts) t.predicate)
-]
-
--- the step of the loop over the triples: one more was seen
-pub AreSeen-step : (n n' p p' : List (List ℕ)) (ps ps' : List Numbered) (ts : List Triple) (i : ℕ) (q : Numbered) (t : Triple) → i < length ts → t ≡ get_or ts i t → ps' ≡ ps ++ q ∷ []
-    → AreSeen n p ps (take i ts) → SeesTriple n n' p p' q t → AreSeen n' p' ps' (take (i + 1) ts)
-AreSeen-step n n' p p' ps ps' ts i q t low is pushed h one =
-    subst (λ l. AreSeen n' p' l (take (i + 1) ts)) (sym pushed)
-    (subst (AreSeen n' p' (ps ++ q ∷ [])) (sym (take_more ts i t low ∙ ap (λ u. take i ts ++ u ∷ []) (sym is)))
-    (AreSeen-more n n' p p' ps (take i ts) q t h one))
-
-pub predicates-step : (n n' p p' : List (List ℕ)) (ts : List Triple) (i : ℕ) (q : Numbered) (t : Triple) → i < length ts → t ≡ get_or ts i t
-    → ((x : List ℕ) → Contains p x → Contains (map (λ t. t.predicate) (take i ts)) x)
-    → SeesTriple n n' p p' q t → (x : List ℕ) → Contains p' x → Contains (map (λ t. t.predicate) (take (i + 1) ts)) x
-predicates-step n n' p p' ts i q t low is only one x there =
-    let more = take_more ts i t low ∙ ap (λ u. take i ts ++ u ∷ []) (sym is) in
-    subst (λ l. Contains l x) (sym (ap (map (λ (u : Triple). u.predicate)) more ∙ map-append (λ (u : Triple). u.predicate) (take i ts) (t ∷ [])))
-    (predicates-more n n' p p' (take i ts) q t only one x there)
-
--- the places of triples that were seen are places of texts
-below_from_seen : (n p : List (List ℕ)) (ps : List Numbered) (ts : List Triple) → AreSeen n p ps ts → All (PlacesAreBelow (length n) (length p)) ps
-below_from_seen n p [] ts h = All-nil (PlacesAreBelow (length n) (length p))
-below_from_seen n p (q ∷ ps) [] h = absurd h
-below_from_seen n p (q ∷ ps) (t ∷ ts) h =
-    All-cons (PlacesAreBelow (length n) (length p)) q ps
-    (place_inside n q.0 t.subject h.0.subject, place_inside p q.1 t.predicate h.0.predicate, place_inside n q.2 t.object h.0.object)
-    (below_from_seen n p ps ts h.1)
-
--- after all of them
-pub IsSeenWhole-end : (n p : List (List ℕ)) (ps : List Numbered) (ts : List Triple) (i : ℕ) → length ts ≤ i → AreSeen n p ps (take i ts)
-    → ((x : List ℕ) → Contains p x → Contains (map (λ t. t.predicate) (take i ts)) x) → IsSeenWhole n p ps ts
-IsSeenWhole-end n p ps ts i past seen only =
-    let all : take i ts ≡ ts = take_all i ts past in
+-- a text that is not there is put at the end
+pub IsPlaced-push : (old new : List (List ℕ)) (text : List ℕ) (place : ℕ) → list_any (bytes_eq text) old ≡ false → new ≡ insert_key bytes_eq old text → place ≡ length old → IsPlaced old new text place
+IsPlaced-push old new text place none is end =
+    let pushed : new ≡ old ++ text ∷ [] = is ∙ ap (λ b. if b then old else old ++ text ∷ []) none in
     record {
-      seen = subst (AreSeen n p ps) all seen;
-      only = λ x there. subst (λ l. Contains (map (λ (t : Triple). t.predicate) l) x) all (only x there);
-      below = below_from_seen n p ps ts (subst (AreSeen n p ps) all seen);
+      at = subst (λ l. slice_get l place ≡ Some text) (sym pushed) (subst (λ k. slice_get (old ++ text ∷ []) k ≡ Some text) (sym end) (last old));
+      adds = record {
+        more = text ∷ [];
+        is = pushed;
+        differ = λ h. subst (IsDistinct bytes_eq) (sym pushed) (IsDistinct-push nat_list_eq_equiv old text h none);
+      };
+      only = λ x there. elim (Contains-push_cases old text x (subst (λ l. Contains l x) pushed there)) as (λ _. Contains old x ⊎ (x ≡ text)) [ inl before ↦ inl before | inr same ↦ inr (sym same) ];
     }
+  where
+    last : (l : List (List ℕ)) → slice_get (l ++ text ∷ []) (length l) ≡ Some text
+    last [] = refl
+    last (x ∷ l) = last l
+
+-- ---- triples with places
+
+-- the three terms of a triple have places
+pub SeesTriple-placed : (n n' n'' p p' : List (List ℕ)) (i j k : ℕ) (t : Triple) → IsPlaced n n' t.subject i → IsPlaced n' n'' t.object k → IsPlaced p p' t.predicate j → SeesTriple n n'' p p' (i, j, k) t
+SeesTriple-placed n n' n'' p p' i j k t s o q = record {
+  seen = record {
+    subject = subst (λ l. slice_get l i ≡ Some t.subject) (sym o.adds.is) (slice_get-append n' o.adds.more i t.subject s.at);
+    predicate = q.at;
+    object = o.at;
+  };
+  nodes_more = Adds-trans n n' n'' s.adds o.adds;
+  predicates_more = q.adds;
+  only = q.only;
+}
+
+-- ---- triples at places
+
+-- a triple at places is that which was seen there
+pub triple_at-seen : (n p : List (List ℕ)) (q : Numbered) (t : Triple) → IsSeen n p q t → triple_at n p q ≡ t
+triple_at-seen n p q t h = λ i. record {
+  subject = get_or_from_slice_get n q.0 t.subject [] h.subject i;
+  predicate = get_or_from_slice_get p q.1 t.predicate [] h.predicate i;
+  object = get_or_from_slice_get n q.2 t.object [] h.object i;
+}
+
+-- the triple at places of texts is seen there
+pub seen_at : (n p : List (List ℕ)) (q : Numbered) → PlacesAreBelow (length n) (length p) q → IsSeen n p q (triple_at n p q)
+seen_at n p q low = record {
+  subject = slice_get-get_or n q.0 [] low.0;
+  predicate = slice_get-get_or p q.1 [] low.1;
+  object = slice_get-get_or n q.2 [] low.2;
+}
+
+pub AreSeen-at : (n p : List (List ℕ)) (ps : List Numbered) → All (PlacesAreBelow (length n) (length p)) ps → AreSeen n p ps (triples_at n p ps)
+AreSeen-at n p [] low = tt
+AreSeen-at n p (q ∷ ps) low = (seen_at n p q (All-head (PlacesAreBelow (length n) (length p)) q ps low), AreSeen-at n p ps (All-tail (PlacesAreBelow (length n) (length p)) q ps low))
+
+-- the places of a triple that was seen are places of texts
+pub below_seen : (n p : List (List ℕ)) (q : Numbered) (t : Triple) → IsSeen n p q t → PlacesAreBelow (length n) (length p) q
+below_seen n p q t h = (place_inside n q.0 t.subject h.subject, place_inside p q.1 t.predicate h.predicate, place_inside n q.2 t.object h.object)
+
+-- without the mark all triples were seen
+pub IsSeenWhole-at : (n p : List (List ℕ)) (ps : List Numbered) (were_more : Bool) → AllAreSeen were_more n p ps → were_more ≡ false → IsSeenWhole n p ps (triples_at n p ps)
+IsSeenWhole-at n p ps were_more h none = record {
+  seen = AreSeen-at n p ps h.below;
+  only = h.only none;
+  below = h.below;
+}
+
+-- so what was numbered is what is kept
+pub numbers_at : (n p n' p' : List (List ℕ)) (ps ps' : List Numbered) (were_more : Bool) (numbers : Numbering) → AllAreSeen were_more n p ps → were_more ≡ false → n' ≡ n → p' ≡ p → ps' ≡ ps → AreNumbersFor n' p' ps' numbers
+    → numbers ≡ numbering_of (graph_of (triples_at n p ps))
+numbers_at n p n' p' ps ps' were_more numbers h none nodes predicates places made =
+    let numbered : AreNumbersFor n p ps numbers = subst (λ l. AreNumbersFor l p ps numbers) nodes (subst (λ l. AreNumbersFor n' l ps numbers) predicates (subst (λ l. AreNumbersFor n' p' l numbers) places made)) in
+    numbered (triples_at n p ps) (IsSeenWhole-at n p ps were_more h none)
+
+-- ---- more texts
+
+module _ (n n' p p' : List (List ℕ)) (nodes_more : Adds n n') (predicates_more : Adds p p') where
+  longer : (xs ys : List (List ℕ)) → Adds xs ys → (i : ℕ) → i < length xs → i < length ys
+  longer xs ys h i low = omega (arith, low, ap length h.is, length-append xs h.more)
+
+  same_at : (xs ys : List (List ℕ)) → Adds xs ys → (i : ℕ) → i < length xs → get_or ys i [] ≡ get_or xs i []
+  same_at xs ys h i low = ap (λ l. get_or l i []) h.is ∙ get_or_append_left xs h.more [] i low
+
+  -- places stay places of texts
+  pub below-more : (ps : List Numbered) → All (PlacesAreBelow (length n) (length p)) ps → All (PlacesAreBelow (length n') (length p')) ps
+  below-more ps low = All-weaker (PlacesAreBelow (length n) (length p)) (PlacesAreBelow (length n') (length p'))
+      (λ q h. (longer n n' nodes_more q.0 h.0, longer p p' predicates_more q.1 h.1, longer n n' nodes_more q.2 h.2)) ps low
+
+  -- and of the same triples
+  pub triples_at-more : (ps : List Numbered) → All (PlacesAreBelow (length n) (length p)) ps → triples_at n' p' ps ≡ triples_at n p ps
+  triples_at-more [] low = refl
+  triples_at-more (q ∷ ps) low =
+      let h = All-head (PlacesAreBelow (length n) (length p)) q ps low in
+      let rest = triples_at-more ps (All-tail (PlacesAreBelow (length n) (length p)) q ps low) in
+      let first : triple_at n' p' q ≡ triple_at n p q = λ i. record {
+        subject = same_at n n' nodes_more q.0 h.0 i;
+        predicate = same_at p p' predicates_more q.1 h.1 i;
+        object = same_at n n' nodes_more q.2 h.2 i;
+      } in
+      λ i. first i ∷ rest i
+
+-- all stays where there are more nodes
+pub AllAreSeen-nodes : (were_more : Bool) (n n' p p' : List (List ℕ)) (ps : List Numbered) → Adds n n' → p' ≡ p → AllAreSeen were_more n p ps → AllAreSeen were_more n' p' ps
+AllAreSeen-nodes were_more n n' p p' ps more same h =
+    let none = Adds-none p p' same in
+    let list = triples_at-more n n' p p' more none ps h.below in
+    record {
+      nodes_differ = more.differ h.nodes_differ;
+      predicates_differ = none.differ h.predicates_differ;
+      below = below-more n n' p p' more none ps h.below;
+      only = λ unmarked x there. subst (λ l. Contains (map (λ (t : Triple). t.predicate) l) x) (sym list) (h.only unmarked x (subst (λ l. Contains l x) same there));
+    }
+
+pub triples_at-nodes : (were_more : Bool) (n n' p p' : List (List ℕ)) (ps : List Numbered) → Adds n n' → p' ≡ p → AllAreSeen were_more n p ps → triples_at n' p' ps ≡ triples_at n p ps
+triples_at-nodes were_more n n' p p' ps more same h = triples_at-more n n' p p' more (Adds-none p p' same) ps h.below

@@ -1,4 +1,5 @@
 pub mod Limits
 pub mod Numbering
 pub mod Order
+pub mod Sights
 pub mod held

@@ -9,6 +9,7 @@ use crate::fault::number_from;
 use crate::role::{Role, roles};
 use crate::sort::sorted;
 use crate::text::Text;
+use bm_term::Term;
 use std::alloc::{AllocError, Global};
 
 /// The nodes by their roles.
@@ -22,7 +23,7 @@ pub(crate) struct Groups<'a> {
 /// The nodes that are subject and object, subjects alone, and objects alone, each ascending.
 pub(crate) fn group_nodes<'a>(
     alloc: Global,
-    nodes: &[Text<'a>],
+    nodes: &'a [Term],
     triples: &[(u32, u32, u32)],
 ) -> Result<Groups<'a>, AllocError>
     requires below { All (NodesAreBelow (length nodes.now)) triples.now }
@@ -39,7 +40,7 @@ pub(crate) fn group_nodes<'a>(
 }
 
 /// The nodes by their roles, in the order of first sight.
-fn split<'a>(alloc: Global, nodes: &[Text<'a>], roles: &[Role]) -> Result<Groups<'a>, AllocError>
+fn split<'a>(alloc: Global, nodes: &'a [Term], roles: &[Role]) -> Result<Groups<'a>, AllocError>
     requires { length roles.now ≡ length nodes.now }
     ensures { IfOk result (λ groups. AreSplit roles.now (entries_from 0 nodes.now) groups.shared.items groups.subjects.items groups.objects.items) }
 {
@@ -50,7 +51,7 @@ fn split<'a>(alloc: Global, nodes: &[Text<'a>], roles: &[Role]) -> Result<Groups
     };
     for (place, node) in nodes.iter().enumerate() {
         let entry = Entry {
-            text: node.again(),
+            text: Text::of(node),
             place: number_from(place)?,
         };
         put(&mut groups, roles[place], entry)?;
@@ -72,7 +73,7 @@ fn put<'a>(groups: &mut Groups<'a>, role: Role, entry: Entry<'a>) -> Result<(), 
 }
 
 /// All texts, ascending.
-pub(crate) fn ascending<'a>(alloc: Global, texts: &[Text<'a>]) -> Result<Vec<Entry<'a>>, AllocError>
+pub(crate) fn ascending<'a>(alloc: Global, texts: &'a [Term]) -> Result<Vec<Entry<'a>>, AllocError>
     requires { IsDistinct bytes_eq texts.now }
     ensures { IfOk result (λ entries. IsGroup texts.now anywhere entries.items) }
 {
@@ -82,13 +83,13 @@ pub(crate) fn ascending<'a>(alloc: Global, texts: &[Text<'a>]) -> Result<Vec<Ent
 }
 
 /// All texts with their places.
-fn entries<'a>(alloc: Global, texts: &[Text<'a>]) -> Result<Vec<Entry<'a>>, AllocError>
+fn entries<'a>(alloc: Global, texts: &'a [Term]) -> Result<Vec<Entry<'a>>, AllocError>
     ensures { IfOk result (λ entries. entries.items ≡ entries_from 0 texts.now) }
 {
     let mut entries = Vec::with_capacity(alloc, texts.len())?;
     for (place, text) in texts.iter().enumerate() {
         entries.push(Entry {
-            text: text.again(),
+            text: Text::of(text),
             place: number_from(place)?,
         })?;
     }

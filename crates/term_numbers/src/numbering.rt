@@ -5,18 +5,16 @@ ghost use Rattle.bm_term.specs.Graph.{graph_of};
 ghost use Rattle.bm_term.specs.Triple.{IsRdfTriple};
 ghost use Rattle.term_numbers.specs.Numbering.{numbering_of};
 ghost use Rattle.term_numbers.specs.declared.fault.NumberFault.TheVariants.{TooManyTriples};
-ghost use Rattle.term_numbers.specs.held.Numbered.{MayBeNumbered, AreByNumber, IsAnswerFor};
+ghost use Rattle.term_numbers.specs.held.Numbered.{MayBeNumbered, AreByNumber, AreNumbersFor};
 ghost use Rattle.term_numbers.specs.held.Renumbered.{PlacesAreBelow};
 
+use crate::builder::Builder;
 use crate::entry::Entry;
 use crate::fault::NumberFault;
 use crate::group::{Groups, ascending, group_nodes};
 use crate::numbers::{Numbers, numbers_of};
 use crate::renumber::{number_entries, renumber, set_in_place};
-use crate::seen::see;
-use crate::text::Text;
-use bm_term::Triple;
-use indexmap::IndexSet;
+use bm_term::{Term, Triple};
 use std::alloc::{AllocError, Global};
 use std::hash::{BuildHasher, BuildHasherDefault, DefaultHasher};
 
@@ -45,30 +43,24 @@ pub fn number_by<S: BuildHasher + Copy + Drop>(
     ensures few { OnOk result (length (graph_of triples.now) ≤ limit) }
     ensures many { IfErr result (λ fault. fault ≡ TooManyTriples → limit < length (graph_of triples.now)) }
 {
-    let mut nodes = IndexSet::with_hasher(alloc, hashers);
-    let mut predicates = IndexSet::with_hasher(alloc, hashers);
-    let places = see(alloc, triples, &mut nodes, &mut predicates)?;
-    number_seen(
-        alloc,
-        nodes.as_slice(),
-        predicates.as_slice(),
-        places,
-        limit,
-    )
+    let mut builder = Builder::with_hasher(alloc, hashers, limit);
+    for triple in triples {
+        builder.see(triple)?;
+    }
+    builder.finish()
 }
 
 /// Numbers triples that were seen.
-fn number_seen(
+pub(crate) fn number_seen(
     alloc: Global,
-    nodes: &[Text<'_>],
-    predicates: &[Text<'_>],
+    nodes: &[Term],
+    predicates: &[Term],
     places: Vec<(u32, u32, u32)>,
-    limit: u32,
-) -> Result<Numbers, NumberFault>
+) -> Result<Numbers, AllocError>
     requires nodes_differ { IsDistinct bytes_eq nodes.now }
     requires predicates_differ { IsDistinct bytes_eq predicates.now }
     requires below { All (PlacesAreBelow (length nodes.now) (length predicates.now)) places.items }
-    ensures { IsAnswerFor nodes.now predicates.now places.items limit result }
+    ensures { IfOk result (AreNumbersFor nodes.now predicates.now places.items) }
 {
     let groups = group_nodes(alloc, nodes, &places)?;
     let predicate_entries = ascending(alloc, predicates)?;
@@ -80,11 +72,7 @@ fn number_seen(
         &predicate_entries,
         places,
     )?;
-    if triples.len() > limit as usize {
-        return Err(NumberFault::TooManyTriples);
-    }
-    let numbers = numbers_of(alloc, &groups, &predicate_entries, triples)?;
-    Ok(numbers)
+    numbers_of(alloc, &groups, &predicate_entries, triples)
 }
 
 /// The triples by numbers, ascending, each once.

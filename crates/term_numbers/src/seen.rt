@@ -1,73 +1,60 @@
 //! Triples by places: each text has the place at which it was first seen, nodes and predicates each among themselves.
-ghost use Rattle.std.specs.Prelude.{◌≡◌, [], IfOk};
-ghost use Rattle.term_numbers.specs.held.Seen.{IsPlaced, SeesTriple, IsSeenWhole};
+ghost use Rattle.std.specs.Prelude.{◌≡◌, IfOk, OnErr};
+ghost use Rattle.term_numbers.specs.held.Seen.{IsPlaced, Adds, SeesTriple};
 
 use crate::fault::number_from;
-use crate::text::Text;
-use bm_term::Triple;
+use bm_term::{Term, Triple};
 use indexmap::IndexSet;
-use std::alloc::{AllocError, Global};
+use std::alloc::AllocError;
 use std::hash::BuildHasher;
 
-/// The places of all triples. A text is hashed once for each place where it is, and not at all where it is the subject
-/// or the predicate of the triple before.
-pub(crate) fn see<'a, S: BuildHasher + Copy + Drop>(
-    alloc: Global,
-    triples: &'a [Triple],
-    nodes: &mut IndexSet<Text<'a>, S>,
-    predicates: &mut IndexSet<Text<'a>, S>,
-) -> Result<Vec<(u32, u32, u32)>, AllocError>
-    requires { predicates.old.keys ≡ [] }
-    ensures { IfOk result (λ places. IsSeenWhole nodes.new.keys predicates.new.keys places.items triples.now) }
-{
-    let mut places = Vec::with_capacity(alloc, triples.len())?;
-    let mut last = (0, 0, 0);
-    for triple in triples {
-        last = see_triple(nodes, predicates, last, triple)?;
-        places.push(last)?;
-    }
-    Ok(places)
-}
-
-/// The places of a triple, where those of the triple before are known.
-fn see_triple<'a, S: BuildHasher + Copy + Drop>(
-    nodes: &mut IndexSet<Text<'a>, S>,
-    predicates: &mut IndexSet<Text<'a>, S>,
+/// The places of a triple, where those of the triple before are known. A text is not hashed where it is the subject or
+/// the predicate of the triple before, and it is copied where it was not seen before.
+pub(crate) fn see_triple<S: BuildHasher>(
+    nodes: &mut IndexSet<Term, S>,
+    predicates: &mut IndexSet<Term, S>,
     last: (u32, u32, u32),
-    triple: &'a Triple,
+    triple: &Triple,
 ) -> Result<(u32, u32, u32), AllocError>
-    ensures { IfOk result (λ places. SeesTriple nodes.old.keys nodes.new.keys predicates.old.keys predicates.new.keys places triple.now) }
+    ensures seen { IfOk result (λ places. SeesTriple nodes.old.keys nodes.new.keys predicates.old.keys predicates.new.keys places triple.now) }
+    ensures adds { Adds nodes.old.keys nodes.new.keys }
+    ensures stays { OnErr result (predicates.new.keys ≡ predicates.old.keys) }
 {
-    let subject = place_near(nodes, last.0, Text::of(&triple.subject))?;
-    let predicate = place_near(predicates, last.1, Text::of(&triple.predicate))?;
-    let object = place_in(nodes, Text::of(&triple.object))?;
+    let subject = place_near(nodes, last.0, &triple.subject)?;
+    let object = place_in(nodes, &triple.object)?;
+    let predicate = place_near(predicates, last.1, &triple.predicate)?;
     Ok((subject, predicate, object))
 }
 
-/// The place of a text, which is looked for at one place first.
-fn place_near<'a, S: BuildHasher + Copy + Drop>(
-    texts: &mut IndexSet<Text<'a>, S>,
+/// The place of a term, which is looked for at one place first.
+fn place_near<S: BuildHasher>(
+    terms: &mut IndexSet<Term, S>,
     near: u32,
-    text: Text<'a>,
+    term: &Term,
 ) -> Result<u32, AllocError>
-    ensures { IfOk result (λ place. IsPlaced texts.old.keys texts.new.keys text.entry place) }
+    ensures placed { IfOk result (IsPlaced terms.old.keys terms.new.keys term.now) }
+    ensures stays { OnErr result (terms.new.keys ≡ terms.old.keys) }
 {
-    if let Some(found) = texts.get_index(near as usize)
-        && *found == text
+    if let Some(found) = terms.get_index(near as usize)
+        && *found == *term
     {
         return Ok(near);
     }
-    place_in(texts, text)
+    place_in(terms, term)
 }
 
-/// The place of a text, which is put at the end if it is not there.
-fn place_in<'a, S: BuildHasher + Copy + Drop>(
-    texts: &mut IndexSet<Text<'a>, S>,
-    text: Text<'a>,
+/// The place of a term. If it is not there, a copy is put at the end.
+fn place_in<S: BuildHasher>(
+    terms: &mut IndexSet<Term, S>,
+    term: &Term,
 ) -> Result<u32, AllocError>
-    ensures { IfOk result (λ place. IsPlaced texts.old.keys texts.new.keys text.entry place) }
+    ensures placed { IfOk result (IsPlaced terms.old.keys terms.new.keys term.now) }
+    ensures stays { OnErr result (terms.new.keys ≡ terms.old.keys) }
 {
-    let (place, _) = texts.insert_full(text)?;
-    let place = number_from(place)?;
+    if let Some(place) = terms.get_index_of(term) {
+        return number_from(place);
+    }
+    let place = number_from(terms.len())?;
+    terms.insert(term.clone()?)?;
     Ok(place)
 }

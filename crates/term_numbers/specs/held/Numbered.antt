@@ -1,10 +1,8 @@
 -- Carries proofs only: the numbers of the texts of groups.
-use Rattle.std.specs.Prelude.{◌≡◌, ◌<◌, ◌≤◌, ℕ, List, All, Result, Ok, Err, length, map}
+use Rattle.std.specs.Prelude.{◌≡◌, ℕ, List, All, length, map}
 use Rattle.bm_term.specs.Graph.{graph_of}
 use Rattle.bm_term.specs.declared.triple.Triple.{Triple}
 use Rattle.term_numbers.specs.Numbering.{Numbering, numbering_of}
-use Rattle.term_numbers.specs.declared.fault.NumberFault.{NumberFault}
-use Rattle.term_numbers.specs.declared.fault.NumberFault.TheVariants.{TooManyTriples, Memory}
 use Rattle.term_numbers.specs.held.Seen.{IsSeenWhole}
 use Rattle.bm_term.specs.SetOf.{set_of}
 use Rattle.term_numbers.specs.Order.{Numbered, number_cmp}
@@ -35,11 +33,6 @@ pub record MayBeNumbered (n : ℕ) (entries : List Entry) : Type 0 where
   pub differ : PlacesDiffer entries
   pub below : All (PlaceIsBelow n) entries
 
--- what is answered for triples that were seen: their numbering, or that there are more than the limit
-abbrev pub IsAnswer : List Triple → ℕ → Result Numbering NumberFault → Type 0
-IsAnswer triples limit (Ok numbers) = (numbers ≡ numbering_of (graph_of triples)) × (length (graph_of triples) ≤ limit)
-IsAnswer triples limit (Err TooManyTriples) = limit < length (graph_of triples)
-IsAnswer triples limit (Err Memory) = Unit {0}
-
-abbrev pub IsAnswerFor : List (List ℕ) → List (List ℕ) → List Numbered → ℕ → Result Numbering NumberFault → Type 0
-IsAnswerFor nodes predicates places limit result = (triples : List Triple) → IsSeenWhole nodes predicates places triples → IsAnswer triples limit result
+-- the numbering of the graph of any triples that were seen so
+abbrev pub AreNumbersFor : List (List ℕ) → List (List ℕ) → List Numbered → Numbering → Type 0
+AreNumbersFor nodes predicates places numbers = (triples : List Triple) → IsSeenWhole nodes predicates places triples → numbers ≡ numbering_of (graph_of triples)

@@ -1,15 +1,21 @@
 -- Carries proofs only: texts and triples by the order in which they were first seen.
-use Rattle.std.specs.Prelude.{◌≡◌, ℕ, ◌⊎◌, List, [], ◌∷◌, ◌++◌, Some, Contains, ◌==◌, ◌<◌, map, length, All}
-use Rattle.std.specs.List.{slice_get, list_any}
+use Rattle.std.specs.Prelude.{◌≡◌, ℕ, ◌⊎◌, Bool, false, bytes_eq, List, [], ◌∷◌, ◌++◌, Some, Contains, ◌==◌, ◌<◌, map, length, All}
+use Rattle.std.specs.List.{slice_get, slice_index_or, list_any, IsDistinct}
 use Rattle.bm_term.specs.declared.triple.Triple.{Triple}
 use Rattle.term_numbers.specs.Order.{Numbered}
 use Rattle.term_numbers.specs.held.Renumbered.{PlacesAreBelow}
 use Rattle.term_numbers.specs.declared.role.Role.{Role}
 
+-- some texts more are at the end of a list, and no text is there twice where none was
+pub record Adds (old new : List (List ℕ)) : Type 0 where
+  pub more : List (List ℕ)
+  pub is : new ≡ old ++ more
+  pub differ : IsDistinct bytes_eq old → IsDistinct bytes_eq new
+
 -- a text has this place in a list, to which it was put if it was not there
 pub record IsPlaced (old new : List (List ℕ)) (text : List ℕ) (place : ℕ) : Type 0 where
   pub at : slice_get new place ≡ Some text
-  pub grows : (more : List (List ℕ)) × (new ≡ old ++ more)
+  pub adds : Adds old new
   pub only : (x : List ℕ) → Contains new x → Contains old x ⊎ (x ≡ text)
 
 -- the places of a triple's terms: subject and object among the nodes
@@ -27,8 +33,8 @@ AreSeen nodes predicates (p ∷ ps) (t ∷ ts) = IsSeen nodes predicates p t × 
 -- one triple more was seen
 pub record SeesTriple (nodes nodes' predicates predicates' : List (List ℕ)) (places : Numbered) (triple : Triple) : Type 0 where
   pub seen : IsSeen nodes' predicates' places triple
-  pub nodes_grow : (more : List (List ℕ)) × (nodes' ≡ nodes ++ more)
-  pub predicates_grow : (more : List (List ℕ)) × (predicates' ≡ predicates ++ more)
+  pub nodes_more : Adds nodes nodes'
+  pub predicates_more : Adds predicates predicates'
   pub only : (x : List ℕ) → Contains predicates' x → Contains predicates x ⊎ (x ≡ triple.predicate)
 
 -- all triples were seen, and each predicate is that of a triple
@@ -36,6 +42,24 @@ pub record IsSeenWhole (nodes predicates : List (List ℕ)) (places : List Numbe
   pub seen : AreSeen nodes predicates places triples
   pub only : (x : List ℕ) → Contains predicates x → Contains (map (λ t. t.predicate) triples) x
   pub below : All (PlacesAreBelow (length nodes) (length predicates)) places
+
+-- the triples whose terms have some places
+abbrev pub triple_at : List (List ℕ) → List (List ℕ) → Numbered → Triple
+triple_at nodes predicates places = record {
+  subject = slice_index_or nodes places.0 [];
+  predicate = slice_index_or predicates places.1 [];
+  object = slice_index_or nodes places.2 [];
+}
+
+abbrev pub triples_at : List (List ℕ) → List (List ℕ) → List Numbered → List Triple
+triples_at nodes predicates places = map (triple_at nodes predicates) places
+
+-- no text is there twice, all places are those of texts, and without the mark each predicate is that of a triple
+pub record AllAreSeen (were_more : Bool) (nodes predicates : List (List ℕ)) (places : List Numbered) : Type 0 where
+  pub nodes_differ : IsDistinct bytes_eq nodes
+  pub predicates_differ : IsDistinct bytes_eq predicates
+  pub below : All (PlacesAreBelow (length nodes) (length predicates)) places
+  pub only : were_more ≡ false → (x : List ℕ) → Contains predicates x → Contains (map (λ t. t.predicate) (triples_at nodes predicates places)) x
 
 -- whether a node is a subject, and whether it is an object
 abbrev pub role_of : List Numbered → ℕ → Role
