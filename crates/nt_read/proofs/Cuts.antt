@@ -7,14 +7,15 @@ use Rattle.std.proofs.lemmas.Bool.Decides.{eqb_tells}
 use Rattle.memchr.specs.Find.{is_byte2}
 use Rattle.nt_read.specs.scanning.Lines.{before_first_line, lines_after, lines_of}
 use Rattle.nt_read.specs.Lines.{HasNoEnd, IsLineEnd, AreLines, last, more}
-use Rattle.nt_read.proofs.Splits.{plain}
+use Rattle.nt_read.specs.Pieces.{unfinished}
+use Rattle.nt_read.proofs.Splits.{plain, from_other}
 
 -- neither LF nor CR
 abbrev IsNoEnd : ℕ → Type 0
 IsNoEnd b = (b ≢ 10) × (b ≢ 13)
 
 -- a byte that ends no line is neither LF nor CR
-not_end : (b : ℕ) → IsNoEnd b → is_byte2 10 13 b ≡ true → ⊥
+pub not_end : (b : ℕ) → IsNoEnd b → is_byte2 10 13 b ≡ true → ⊥
 not_end b never h =
     elim (eqb_tells b 10) [
       | inl is ↦ never.0 is.1
@@ -62,10 +63,6 @@ longer_line b bytes lines never (more whole line end after others rest ends is l
 abbrev AfterCr : List ℕ → Type 0
 AfterCr bytes = AreLines (13 ∷ bytes) ([] ∷ lines_after true bytes)
 
--- the lines from a byte on that is no LF
-abbrev from_other : ℕ → List ℕ → List (List ℕ)
-from_other b bytes = if b == 13 then [] ∷ lines_after true bytes else before_first_line b (lines_after false bytes)
-
 -- one byte more that is no LF
 other_more : (b : ℕ) (bytes : List ℕ) → b ≢ 10 → AreLines bytes (lines_after false bytes) → AfterCr bytes → AreLines (b ∷ bytes) (from_other b bytes)
 other_more b bytes never plain_lines after =
@@ -100,6 +97,22 @@ both (b ∷ bytes) =
     let later = both bytes in
     let all = plain_more b bytes later.0 later.1 in
     (all, after_more b bytes later.0 all)
+
+-- bytes have a line
+are_some : (bytes : List ℕ) (lines : List (List ℕ)) → AreLines bytes lines → lines ≢ []
+are_some bytes lines (last line never) = λ e. absurd (cc)
+are_some bytes lines (more whole line end after others never ends is later) = λ e. absurd (cc)
+
+-- no line has a line end in it, and so the last one has none
+last_has_no_end : (bytes : List ℕ) (lines : List (List ℕ)) → AreLines bytes lines → HasNoEnd (unfinished lines)
+last_has_no_end bytes lines (last line never) = never
+last_has_no_end bytes lines (more whole line end after (next ∷ others) never ends is later) = last_has_no_end after (next ∷ others) later
+last_has_no_end bytes lines (more whole line end after [] never ends is later) = absurd (are_some after [] later refl)
+
+-- the last of the lines that are read has no line end in it
+pub unfinished-no_end : (bytes : List ℕ) → HasNoEnd (unfinished (lines_of bytes))
+unfolding lines_of
+unfinished-no_end bytes = last_has_no_end bytes (lines_after false bytes) ((both bytes).0)
 
 -- the lines that are read are the lines, and no other list is
 pub AreLines-lines_of : (bytes : List ℕ) (lines : List (List ℕ)) → AreLines bytes lines ↔ (lines ≡ lines_of bytes)

@@ -1,23 +1,12 @@
--- The first bad line of a file, and pieces of a stream.
-use Rattle.std.proofs.Common.{◌≡◌, ◌≢◌, ◌↔◌, ℕ, suc, ◌+◌, true, false, if◌then◌else◌, List, [], ◌∷◌, ◌++◌, length, All, Some, None, Result, Ok, Err, fold, refl, sym, ◌∙◌, ap, append_assoc, arith}
-use Rattle.std.specs.List.{concat}
-use Rattle.std.proofs.lemmas.List.{append-nil}
+-- The first bad line of a file.
+use Rattle.std.proofs.Common.{◌≡◌, ◌≢◌, ◌↔◌, ℕ, suc, ◌+◌, true, false, if◌then◌else◌, List, [], ◌∷◌, ◌++◌, length, All, Some, None, refl, sym, ◌∙◌, ap, arith}
 use Rattle.std.proofs.lemmas.List.Elements.{All-nil, All-cons}
-use Rattle.nt_read.specs.declared.lines.FeedFault.{FeedFault}
 use Rattle.nt_read.specs.scanning.Line.{ScannedLine, bad, nothing, spelled, scan_line}
 use Rattle.nt_read.specs.scanning.Lines.{lines_of, is_bad, first_bad, first_bad_from}
 use Rattle.nt_read.specs.Lines.{IsFirstBadLine}
 use Rattle.nt_read.specs.Line.{IsBadLine}
-use Rattle.nt_read.specs.Feeding.{with_bytes}
 use Rattle.nt_read.proofs.Cuts.{AreLines-lines_of}
 use Rattle.nt_read.proofs.LineLaws.{bad_is_read, scanned_is_bad}
-
--- pieces one after another are fed as one
-pub pieces_are_fed : (reader : Result (List ℕ) FeedFault) (pieces : List (List ℕ)) → fold with_bytes reader pieces ≡ with_bytes reader (concat pieces)
-pieces_are_fed (Ok bytes) [] = ap Ok (sym (append-nil bytes))
-pieces_are_fed (Ok bytes) (piece ∷ pieces) = pieces_are_fed (Ok (bytes ++ piece)) pieces ∙ ap Ok (append_assoc bytes piece (concat pieces))
-pieces_are_fed (Err fault) [] = refl
-pieces_are_fed (Err fault) (piece ∷ pieces) = pieces_are_fed (Err fault) pieces
 
 -- a line is bad, or it is not
 bad_tested : (scanned : ScannedLine) → is_bad scanned ≡ true → scanned ≡ bad
@@ -66,14 +55,14 @@ first_found n (first ∷ before) line after good here =
     rw here_good (later ∙ ap Some (omega arith))
 
 -- the lines before a first bad one, it, and those after it
-record Found (n : ℕ) (lines : List (List ℕ)) (number : ℕ) : Type 0 where
-  before : List (List ℕ)
-  line : List ℕ
-  after : List (List ℕ)
-  cut : lines ≡ before ++ line ∷ after
-  place : number ≡ n + length before
-  none_before : NoneBad before
-  it_is_bad : scan_line line ≡ bad
+pub record Found (n : ℕ) (lines : List (List ℕ)) (number : ℕ) : Type 0 where
+  pub before : List (List ℕ)
+  pub line : List ℕ
+  pub after : List (List ℕ)
+  pub cut : lines ≡ before ++ line ∷ after
+  pub place : number ≡ n + length before
+  pub none_before : NoneBad before
+  pub it_is_bad : scan_line line ≡ bad
 
 -- a first bad line after one that is not bad
 found_later : (n : ℕ) (first : List ℕ) (lines : List (List ℕ)) (number : ℕ) → scan_line first ≢ bad → Found (n + 1) lines number → Found n (first ∷ lines) number
@@ -88,7 +77,7 @@ found_later n first lines number good later = record {
 }
 
 -- the first bad line that is found is one
-find_first : (n : ℕ) (lines : List (List ℕ)) (number : ℕ) → first_bad_from n lines ≡ Some number → Found n lines number
+pub find_first : (n : ℕ) (lines : List (List ℕ)) (number : ℕ) → first_bad_from n lines ≡ Some number → Found n lines number
 find_first n [] number h = absurd (cc)
 find_first n (line ∷ lines) number h =
     elim (is_bad (scan_line line)) as (λ b. is_bad (scan_line line) ≡ b → (if b then Some n else first_bad_from (n + 1) lines) ≡ Some number → Found n (line ∷ lines) number) [

@@ -1,13 +1,15 @@
 pub mod Cuts
 pub mod Examples
+pub mod FedPieces
 pub mod FirstBad
-pub mod Fronts
 pub mod LineAnswers
 pub mod LineExamples
 pub mod LineLaws
 pub mod LiteralTexts
+pub mod Pieces
 pub mod PlaceLaws
 pub mod RawLaws
+pub mod Reading
 pub mod SpelledTriples
 pub mod Splits
 pub mod TakenTriples

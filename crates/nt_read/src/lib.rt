@@ -15,8 +15,9 @@ mod terminals;
 mod writing;
 
 pub use file_laws::{
-    first_bad_is_the_first_bad_line, lines_spell_their_triples, lines_stand_between_line_ends,
-    no_first_bad_is_no_bad_line, pieces_are_fed_as_one,
+    a_bad_line_is_the_first_of_the_file, first_bad_is_the_first_bad_line,
+    lines_spell_their_triples, lines_stand_between_line_ends, no_first_bad_is_no_bad_line,
+    pieces_are_cut_as_one, pieces_have_the_lines_of_the_whole,
 };
 pub use laws::{
     a_line_spells_one_triple, a_triple_is_something, spelled_triples_are_triples_of_rdf,

@@ -1,7 +1,7 @@
 -- Carries proofs only: the lines of bytes, one by one from the front, the first bad one, and the triples that they spell. That
 -- these are the lines, the line and the triples is said by the laws of file_laws.
 use Rattle.std.specs.Prelude.{ℕ, ◌+◌, Bool, true, false, ◌==◌, if◌then◌else◌, Option, Some, None, List, [], ◌∷◌}
-use Rattle.std.specs.List.{flat_map}
+use Rattle.std.specs.List.{flat_map, before_first}
 use Rattle.bm_term.specs.declared.triple.Triple.{Triple}
 use Rattle.rdf_text.specs.Marks.{line_feed, carriage_return}
 use Rattle.nt_read.specs.scanning.Line.{ScannedLine, bad, nothing, spelled, scan_line}
@@ -24,11 +24,6 @@ lines_after after_cr (b ∷ bytes) =
 unfoldable pub lines_of : List ℕ → List (List ℕ)
 lines_of bytes = lines_after false bytes
 
--- the lines of what is left after a line end, if there was one
-abbrev pub lines_left : Option (List ℕ) → List (List ℕ)
-lines_left None = []
-lines_left (Some bytes) = lines_of bytes
-
 -- what is found in a line is bad
 abbrev pub is_bad : ScannedLine → Bool
 is_bad bad = true
@@ -49,6 +44,10 @@ first_bad_from n (line ∷ lines) = if is_bad (scan_line line) then Some n else 
 -- the number of the first bad line of a file, counted from 1, if there is one
 unfoldable pub first_bad : List ℕ → Option ℕ
 first_bad bytes = first_bad_from 1 (lines_of bytes)
+
+-- the lines before the first bad one, or all where none is bad
+abbrev pub before_first_bad : List (List ℕ) → List (List ℕ)
+before_first_bad lines = before_first (λ line. is_bad (scan_line line)) lines
 
 -- the triples that lines spell, in their order
 abbrev pub triples_of : List (List ℕ) → List Triple
