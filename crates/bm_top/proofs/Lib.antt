@@ -4,7 +4,7 @@ pub mod IndexRead
 pub mod LinePieces
 pub mod Lists
 pub mod Over
-pub mod Pieces
+pub mod PieceByPiece
 pub mod Promised
 pub mod Promises
 pub mod ReadData

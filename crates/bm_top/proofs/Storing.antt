@@ -8,7 +8,9 @@ use Rattle.run_rows.specs.declared.form.RowForm.TheVariants.{V1}
 use Rattle.term_numbers.specs.Limits.{max_triples}
 use Rattle.term_numbers.specs.Numbering.{Numbering, numbering_of}
 use Rattle.term_numbers.specs.Sights.{nothing_yet}
-use Rattle.term_numbers.proofs.NumberLaws.{as_many_as_graph}
+use Rattle.term_numbers.specs.declared.fault.NumberFault.{NumberFault}
+use Rattle.term_numbers.specs.declared.fault.NumberFault.TheVariants as number_faults
+use Rattle.term_numbers.proofs.NumberLaws.{as_many}
 use Rattle.term_numbers.proofs.SightLaws.{graph_of-first_sights, kept_unmarked, length-first_sights, marked_where_more}
 use Rattle.index_file.specs.Image.{image_of}
 use Rattle.index_file.specs.Version.{numbering_bytes}
@@ -21,7 +23,7 @@ use Rattle.bm_top.specs.Lines.{bad_line_line, max_index_bytes}
 use Rattle.bm_top.specs.Standard.{AreNTriples, HasTooManyTriples, IsDecidedByData, IsGraphOf, IsStored}
 use Rattle.bm_top.specs.Texts.{stored_text}
 use Rattle.bm_top.specs.Verdict.{Verdict, refused, stores}
-use Rattle.bm_top.specs.steps.Undecided.{from_image}
+use Rattle.bm_top.specs.steps.Undecided.{from_image, from_numbers}
 use Rattle.bm_top.specs.steps.Ending.{Says}
 use Rattle.bm_top.specs.steps.Store.{HasNoIndex, IsIndexFor}
 use Rattle.bm_top.proofs.DataIndex.{graph_index}
@@ -31,10 +33,10 @@ use Rattle.bm_top.proofs.Verdicts.{bad_then, good_then, long_then, many_then}
 -- what is not marked has no mark
 not_marked : (mark : Bool) → IsTrue mark → mark ≡ false → ⊥
 not_marked true marked is = absurd (cc)
-not_marked false marked is = absurd marked
+not_marked false marked is = absurd (cc)
 
 pub no_mark_where : (mark : Bool) → (IsTrue mark → ⊥) → mark ≡ false
-no_mark_where true none = absurd (none tt)
+no_mark_where true none = absurd (none refl)
 no_mark_where false none = refl
 
 -- the triples of the data were taken, under their limit
@@ -43,10 +45,15 @@ module _ (bytes : List ℕ) (triples : List Triple) (kept : Kept) (are : AreNTri
   taken_graph = record { triples = triples; are_triples = are; is_graph = (graph-is triples (graph_of triples)).1 refl }
 
   -- there were more
-  pub many_taken : IsTrue kept.were_more → HasTooManyTriples bytes
+  many_taken : IsTrue kept.were_more → HasTooManyTriples bytes
   many_taken marked =
       let more = (marked_where_more max_triples triples).0 (subst (λ (k : Kept). IsTrue k.were_more) taken marked) in
       record { graph = graph_of triples; is_graph = taken_graph; many = omega (arith, more, length-first_sights triples) }
+
+  -- why they were not numbered
+  pub no_numbers : (fault : NumberFault) → (fault ≡ number_faults.TooManyTriples → IsTrue kept.were_more) → HasNoIndex bytes (from_numbers fault)
+  no_numbers number_faults.TooManyTriples marked = many_taken (marked refl)
+  no_numbers number_faults.Memory marked = tt
 
   module _ (unmarked : kept.were_more ≡ false) where
     no_mark : (after_all (nothing_yet max_triples) triples).were_more ≡ false
@@ -74,7 +81,7 @@ module _ (bytes : List ℕ) (triples : List Triple) (kept : Kept) (are : AreNTri
       numbered_image = ap (numbering_bytes V1) numbered
 
       pub few_numbered : length numbers.triples ≤ max_triples
-      few_numbered = omega (arith, few_taken, ap (λ (n : Numbering). length n.triples) numbered, as_many_as_graph triples)
+      few_numbered = omega (arith, few_taken, ap (λ (n : Numbering). length n.triples) numbered, as_many (graph_of triples) taken_graph.is_graph.ascends)
 
       -- it is too long
       pub long_image : (fault : ImageFault) → (fault ≡ image_faults.TooLong → 2 ^ 32 ≤ length (numbering_bytes V1 numbers)) → HasNoIndex bytes (from_image fault)
@@ -93,7 +100,7 @@ module _ (bytes : List ℕ) (triples : List Triple) (kept : Kept) (are : AreNTri
             graph = graph_of triples;
             is_graph = taken_graph;
             is_index = record { storable = index.storable; spelled = image };
-            count = count ∙ ap (λ (n : Numbering). length n.triples) numbered ∙ as_many_as_graph triples;
+            count = count ∙ ap (λ (n : Numbering). length n.triples) numbered ∙ as_many (graph_of triples) taken_graph.is_graph.ascends;
           }
 
 -- what data without an index decides

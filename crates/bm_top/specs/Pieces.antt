@@ -10,8 +10,8 @@ use Rattle.bm_world.specs.declared.reading.ReadEnd.{ReadEnd}
 use Rattle.bm_top.specs.Standard.{AreNTriples}
 
 -- these bytes are all of the named file; or its reading ended as that of a whole file ends
-abbrev pub ReadsPieces : List ℕ → ℕ → List ℕ → Result (Option ℕ) ReadEnd → Meanings → Meanings → Type 0
-ReadsPieces name limit bytes (Ok bad) m n = ReadsWhole name bytes m n
+abbrev pub ReadsPieces : {A : Type 0} → List ℕ → ℕ → List ℕ → Result A ReadEnd → Meanings → Meanings → Type 0
+ReadsPieces name limit bytes (Ok read) m n = ReadsWhole name bytes m n
 ReadsPieces name limit bytes (Err end) m n = ReadsAll name limit (Err end) m n
 
 -- the bytes have a first bad line; or they have none, and their triples were taken

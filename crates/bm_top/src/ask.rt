@@ -11,16 +11,15 @@ ghost use Rattle.bm_top.specs.steps.Pieces.{WereRead};
 
 use crate::ending::Ending;
 use crate::index_steps::print_answers;
-use crate::reading::read_pieces;
+use crate::reading::read_data;
 use crate::steps::{MAX_DATA_BYTES, MAX_QUERY_BYTES, read_ending, undecided_ending};
 use crate::store::data_index;
 use bm_world::{World, read_all};
 use index_file::Index;
-use nt_read::Reader;
 use result_write::Form;
 use std::alloc::Global;
 use std::hash::BuildHasher;
-use term_numbers::{Builder, MAX_TRIPLES};
+use term_numbers::Builder;
 
 /// Answers the query of one file over the data of another.
 pub(crate) fn ask<'a, W: World, S: BuildHasher + Copy + Drop>(
@@ -36,9 +35,8 @@ pub(crate) fn ask<'a, W: World, S: BuildHasher + Copy + Drop>(
         (W.told world.old) (W.faults world.old) (W.faults world.new) result }
     ensures moves { Step (W.told world.old) (W.told world.new) (Moves («data».now ∷ query.now ∷ [])) }
 {
-    let mut triples = Builder::with_hasher(alloc, hashers, MAX_TRIPLES);
-    match read_pieces(alloc, world, data, MAX_DATA_BYTES, &mut Reader::new(alloc), &mut triples) {
-        Ok(bad) => ask_of_data(alloc, bad, triples, query, form, world),
+    match read_data(alloc, hashers, world, data) {
+        Ok((bad, triples)) => ask_of_data(alloc, bad, triples, query, form, world),
         Err(end) => read_ending(end, data, MAX_DATA_BYTES),
     }
 }
@@ -52,10 +50,10 @@ fn ask_of_data<'a, W: World, S: BuildHasher + Drop>(
     form: Form,
     world: &mut W,
 ) -> Ending<'a>
-    requires { WereRead bad.entry triples }
-    ensures step { Step (W.told world.old) (W.told world.new) (λ m n. (bytes : List ℕ) → IsReadAs bytes bad.entry (nothing_yet max_triples) triples →
+    requires { WereRead bad triples }
+    ensures step { Step (W.told world.old) (W.told world.new) (λ m n. (bytes : List ℕ) → IsReadAs bytes bad (nothing_yet max_triples) triples →
         Ends (IsDecidedBy m.files query.now max_query_bytes (λ text. IsDecidedByData bytes (λ graph _. IsAnswerOrRefusal form text graph))) result m n) }
-    ensures reason { (bytes : List ℕ) → IsReadAs bytes bad.entry (nothing_yet max_triples) triples →
+    ensures reason { (bytes : List ℕ) → IsReadAs bytes bad (nothing_yet max_triples) triples →
         HasReason (λ files. IsDecidedBy files query.now max_query_bytes (λ text. IsDecidedByData bytes (λ graph _. IsAnswerOrRefusal form text graph))) (query.now ∷ [])
         (W.told world.old) (W.faults world.old) (W.faults world.new) result }
     ensures moves { Step (W.told world.old) (W.told world.new) (Moves (query.now ∷ [])) }
@@ -76,8 +74,8 @@ fn print_decided<'a, W: World, S: BuildHasher + Drop>(
     form: Form,
     world: &mut W,
 ) -> Ending<'a>
-    requires { WereRead bad.entry triples }
-    ensures step { Step (W.told world.old) (W.told world.new) (λ m n. (bytes : List ℕ) → IsReadAs bytes bad.entry (nothing_yet max_triples) triples →
+    requires { WereRead bad triples }
+    ensures step { Step (W.told world.old) (W.told world.new) (λ m n. (bytes : List ℕ) → IsReadAs bytes bad (nothing_yet max_triples) triples →
         Ends (IsDecidedByData bytes (λ graph _. IsAnswerOrRefusal form text.now graph)) result m n) }
     ensures reason { HasReason (λ files verdict. ⊥) []
         (W.told world.old) (W.faults world.old) (W.faults world.new) result }

@@ -11,15 +11,14 @@ ghost use Rattle.bm_top.specs.steps.Ending.{Ends, EndsSo, HasReason, Moves};
 ghost use Rattle.bm_top.specs.steps.Pieces.{WereRead};
 
 use crate::ending::Ending;
-use crate::reading::read_pieces;
+use crate::reading::read_data;
 use crate::steps::{MAX_DATA_BYTES, print_ending, read_ending, undecided_ending};
 use crate::store::{DataIndex, data_index};
 use crate::texts::print_stored;
 use bm_world::{Failed, World, write_all_of};
-use nt_read::Reader;
 use std::alloc::Global;
 use std::hash::BuildHasher;
-use term_numbers::{Builder, MAX_TRIPLES};
+use term_numbers::Builder;
 
 /// Writes the index of the data of one file to another. The two may be one.
 pub(crate) fn load<'a, W: World, S: BuildHasher + Copy + Drop>(
@@ -35,9 +34,8 @@ pub(crate) fn load<'a, W: World, S: BuildHasher + Copy + Drop>(
         (W.told world.old) (W.faults world.old) (W.faults world.new) result }
     ensures moves { Step (W.told world.old) (W.told world.new) (Moves («data».now ∷ [])) }
 {
-    let mut triples = Builder::with_hasher(alloc, hashers, MAX_TRIPLES);
-    match read_pieces(alloc, world, data, MAX_DATA_BYTES, &mut Reader::new(alloc), &mut triples) {
-        Ok(bad) => store_data(alloc, bad, triples, index, world),
+    match read_data(alloc, hashers, world, data) {
+        Ok((bad, triples)) => store_data(alloc, bad, triples, index, world),
         Err(end) => read_ending(end, data, MAX_DATA_BYTES),
     }
 }
@@ -51,8 +49,8 @@ fn store_data<'a, W: World, S: BuildHasher + Drop>(
     world: &mut W,
 ) -> Ending<'a>
     requires made { IfSome (W.told world.old) NothingIsMade }
-    requires read { WereRead bad.entry triples }
-    ensures step { Step (W.told world.old) (W.told world.new) (λ m n. (bytes : List ℕ) → IsReadAs bytes bad.entry (nothing_yet max_triples) triples →
+    requires read { WereRead bad triples }
+    ensures step { Step (W.told world.old) (W.told world.new) (λ m n. (bytes : List ℕ) → IsReadAs bytes bad (nothing_yet max_triples) triples →
         Ends (IsDecidedByData bytes (IsStored index.now)) result m n) }
     ensures reason { HasReason (λ files verdict. ⊥) []
         (W.told world.old) (W.faults world.old) (W.faults world.new) result }

@@ -3,13 +3,17 @@ ghost use Rattle.std.specs.Prelude.{◌≡◌, ◌⊎◌, ◌≤◌, Ok, IsErrOf
 ghost use Rattle.bm_world.specs.World.{IsMissing, Rose};
 ghost use Rattle.bm_world.specs.declared.reading.ReadEnd.TheVariants.{Fault};
 ghost use Rattle.nt_read.specs.Pieces.{new_stream};
+ghost use Rattle.bm_top.specs.Lines.{max_data_bytes};
 ghost use Rattle.bm_top.specs.Pieces.{CameInPieces};
-ghost use Rattle.bm_top.specs.steps.Pieces.{end_of};
+ghost use Rattle.bm_top.specs.steps.Pieces.{CameAsData, end_of};
 
+use crate::steps::MAX_DATA_BYTES;
 use bm_term::Taker;
 use bm_world::{ReadEnd, World};
 use nt_read::{FeedFault, Reader};
 use std::alloc::Global;
+use std::hash::BuildHasher;
+use term_numbers::{Builder, MAX_TRIPLES};
 
 /// How many bytes come at once, at most.
 const BUFFER: usize = 65_536;
@@ -51,6 +55,37 @@ pub fn read_pieces<W: World, T: Taker>(
         if reader.feed(&buffer[..count], into) == Err(FeedFault::Memory) {
             return Err(ReadEnd::Memory);
         }
+    }
+}
+
+/// Reads a data file, and numbers its triples as they come: the first bad line, if there is one, and the triples.
+pub(crate) fn read_data<W: World, S: BuildHasher + Copy>(
+    alloc: Global,
+    hashers: S,
+    world: &mut W,
+    name: &str,
+) -> Result<(Option<u64>, Builder<S>), ReadEnd>
+    ensures came { CameAsData name.now max_data_bytes (W.told world.old) (W.told world.new) result }
+    ensures fault { IsErrOf result ReadEnd.Fault →
+        Rose (W.faults world.old).reads (W.faults world.new).reads
+        ⊎ IsSomeAnd (W.told world.old) (IsMissing name.now) }
+    ensures later { (W.faults world.old).reads ≤ (W.faults world.new).reads }
+    ensures writes_stay { (W.faults world.new).writes ≡ (W.faults world.old).writes }
+    ensures says_stay { (W.faults world.new).says ≡ (W.faults world.old).says }
+{
+    let mut reader = Reader::new(alloc);
+    let mut triples = Builder::with_hasher(alloc, hashers, MAX_TRIPLES);
+    let read = read_pieces(
+        alloc,
+        world,
+        name,
+        MAX_DATA_BYTES,
+        &mut reader,
+        &mut triples,
+    );
+    match read {
+        Ok(bad) => Ok((bad, triples)),
+        Err(end) => Err(end),
     }
 }
 

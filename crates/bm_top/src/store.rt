@@ -1,5 +1,5 @@
 //! The index of some data, or why there is none.
-ghost use Rattle.std.specs.Prelude.{ℕ, List};
+ghost use Rattle.std.specs.Prelude.{ℕ, List, None};
 ghost use Rattle.term_numbers.specs.Limits.{max_triples};
 ghost use Rattle.term_numbers.specs.Sights.{nothing_yet};
 ghost use Rattle.bm_top.specs.Pieces.{IsReadAs};
@@ -27,12 +27,23 @@ pub(crate) fn data_index<S: BuildHasher + Drop>(
     bad: Option<u64>,
     triples: Builder<S>,
 ) -> Result<DataIndex, Undecided>
-    requires { WereRead bad.entry triples }
-    ensures { (bytes : List ℕ) → IsReadAs bytes bad.entry (nothing_yet max_triples) triples → IsDataIndex bytes result }
+    requires { WereRead bad triples }
+    ensures { (bytes : List ℕ) → IsReadAs bytes bad (nothing_yet max_triples) triples → IsDataIndex bytes result }
 {
-    if let Some(line) = bad {
-        return Err(Undecided::BadLine { line });
+    match bad {
+        Some(line) => Err(Undecided::BadLine { line }),
+        None => triples_index(alloc, triples),
     }
+}
+
+/// The same of data without a bad line.
+fn triples_index<S: BuildHasher + Drop>(
+    alloc: Global,
+    triples: Builder<S>,
+) -> Result<DataIndex, Undecided>
+    requires { WereRead None triples }
+    ensures { (bytes : List ℕ) → IsReadAs bytes None (nothing_yet max_triples) triples → IsDataIndex bytes result }
+{
     let numbers = triples.finish()?;
     let bytes = image(alloc, RowForm::V1, &numbers)?;
     Ok(DataIndex {

@@ -1,5 +1,5 @@
 -- A data file that is read in pieces.
-use Rattle.std.proofs.Common.{◌≡◌, ℕ, ◌+◌, ◌-◌, ◌<◌, ◌≤◌, ◌^◌, List, [], ◌++◌, length, take, Option, None, Some, Result, Ok, Err, IsSome, refl, sym, ap, subst, ◌∙◌, length-append, length-take, arith}
+use Rattle.std.proofs.Common.{◌≡◌, ℕ, ◌+◌, ◌-◌, ◌<◌, ◌≤◌, ◌^◌, List, [], ◌++◌, length, take, Option, None, Some, Result, Ok, Err, IsErrOf, IsSome, refl, sym, ap, subst, ◌∙◌, length-append, length-take, arith}
 use Rattle.std.proofs.lemmas.List.{append-nil}
 use Rattle.bm_term.specs.Kept.{Kept}
 use Rattle.nt_read.specs.declared.lines.FeedFault.{FeedFault}
@@ -9,6 +9,8 @@ use Rattle.nt_read.specs.Pieces.{Stream, new_stream}
 use Rattle.nt_read.specs.Feeding.{AnswersLines, HasRead, TakesLines}
 use Rattle.nt_read.proofs.FedPieces.{new_read}
 use Rattle.nt_read.proofs.FirstBad.{first_bad-found}
+use Rattle.term_numbers.specs.Limits.{max_triples}
+use Rattle.term_numbers.specs.Sights.{nothing_yet}
 use Rattle.bm_world.specs.Meanings.{Meanings, file_at, with_opened}
 use Rattle.bm_world.specs.Reading.{ReadsAll, ReadsUpTo, ReadsWhole, buffer_bytes}
 use Rattle.bm_world.specs.World.{Step, Takes}
@@ -17,7 +19,7 @@ use Rattle.bm_world.specs.declared.reading.ReadEnd.TheVariants as read_ends
 use Rattle.bm_world.proofs.Steps.{Step-weaken}
 use Rattle.bm_world.proofs.WholeFile.{reads_all, reads_fault, reads_more, reads_no_memory, reads_none, reads_too_long}
 use Rattle.bm_top.specs.Pieces.{CameInPieces, IsReadAs, ReadsPieces}
-use Rattle.bm_top.specs.steps.Pieces.{SoFar, end_of}
+use Rattle.bm_top.specs.steps.Pieces.{CameAsData, SoFar, end_of}
 use Rattle.bm_top.proofs.ReadData.{read-triples}
 
 -- the file was opened
@@ -99,3 +101,25 @@ module _ {a b c : Option Meanings} {name : List ℕ} {limit left : ℕ} {old mid
 -- the file was not opened, or a read failed
 pub not_opened : {a b : Option Meanings} {name : List ℕ} (limit : ℕ) (old new : Kept) → Step a b (ReadsAll name limit (Err read_ends.Fault)) → CameInPieces name limit a b old new (Err read_ends.Fault)
 not_opened limit old new step = record { bytes = []; step = step; within = tt; read = tt }
+
+-- no memory for a buffer
+pub no_room : {a b : Option Meanings} {name : List ℕ} (limit : ℕ) (old new : Kept) → Step a b (λ m n. IsSome (file_at m name) × (n ≡ with_opened m name (file_at m name))) → CameInPieces name limit a b old new (Err read_ends.Memory)
+no_room limit old new opened = record { bytes = []; step = reads_no_memory (reads_none limit [] refl opened); within = tt; read = tt }
+
+-- the end of the stream is no fault of the world
+pub never_fault : (finished : Result (Unit {0}) FeedFault) → IsErrOf (end_of finished) read_ends.Fault → ⊥
+never_fault (Ok done) is = absurd (cc)
+never_fault (Err (feed_faults.NotNTriples line)) is = absurd (cc)
+never_fault (Err feed_faults.Memory) is = absurd (cc)
+
+-- what a builder took of the file
+pub came_as_data : {told told_now : Option Meanings} {name : List ℕ} {limit : ℕ} (old new : Kept) (bad : Option ℕ) → old ≡ nothing_yet max_triples → CameInPieces name limit told told_now old new (Ok bad) → CameAsData name limit told told_now (Ok (bad, new))
+came_as_data old new bad nothing came = record {
+  bytes = came.bytes;
+  step = Step-weaken came.step (λ m n is. is);
+  within = came.within;
+  read = subst (λ (kept : Kept). IsReadAs came.bytes bad kept new) nothing came.read;
+}
+
+pub came_as_none : {told told_now : Option Meanings} {name : List ℕ} {limit : ℕ} (old new : Kept) (end : ReadEnd) → CameInPieces name limit told told_now old new (Err end) → CameAsData name limit told told_now (Err end)
+came_as_none old new end came = record { bytes = came.bytes; step = Step-weaken came.step (λ m n is. is); within = tt; read = tt }
