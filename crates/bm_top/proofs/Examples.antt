@@ -1,5 +1,5 @@
 -- Worked examples, by computation: commands, lines and verdicts.
-use Rattle.std.proofs.Common.{◌≡◌, ℕ, List, true, [], ◌∷◌, ◌++◌, None, Some, Err, codes, decimal, refl}
+use Rattle.std.proofs.Common.{◌≡◌, ℕ, List, [], ◌∷◌, ◌++◌, None, Some, codes, decimal, refl}
 use Rattle.result_write.specs.declared.form.Form.TheVariants.{Tsv, Json}
 use Rattle.query_grammar.specs.declared.words.Word.TheVariants as words
 use Rattle.sparql_parse.specs.declared.fault.QueryFault.TheVariants as faults

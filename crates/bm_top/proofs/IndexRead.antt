@@ -1,5 +1,5 @@
 -- The verdict over bytes that were opened as an index.
-use Rattle.std.proofs.Common.{◌≡◌, ℕ, List, Option, Result, Ok, Err, refl, sym, ap, subst, ◌∙◌}
+use Rattle.std.proofs.Common.{◌≡◌, ℕ, List, Result, Ok, sym, ap, ◌∙◌}
 use Rattle.bm_term.specs.declared.triple.Triple.{Triple}
 use Rattle.run_rows.specs.declared.form.RowForm.TheVariants.{V1}
 use Rattle.index_file.specs.Conditions.{IsIndex}
@@ -12,7 +12,7 @@ use Rattle.bm_top.specs.declared.ending.Ending.{Ending}
 use Rattle.bm_top.specs.Standard.{IsAnswerOrRefusal, IsCounted, IsDecidedByIndex, damaged, good_index, IsIndexOf}
 use Rattle.bm_top.specs.Texts.{counts_text}
 use Rattle.bm_top.specs.Verdict.{Verdict, answered}
-use Rattle.bm_top.specs.steps.Ending.{Ends, EndsSo}
+use Rattle.bm_top.specs.steps.Ending.{Ends}
 
 -- the index has the numbers of its graph
 pub numbers_of : (graph : List Triple) (bytes : List ℕ) (index : Stored) → IsIndexOf graph bytes → index ≡ stored_of 1 graph → NumbersGraph graph index.numbering

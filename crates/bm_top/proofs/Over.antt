@@ -1,18 +1,16 @@
 -- The verdict of a text that is asked over the graph of an index, by what its parse and its answer are.
-use Rattle.std.proofs.Common.{◌≡◌, ◌⊎◌, inl, inr, ℕ, List, length, Option, Some, None, Result, Ok, Err, refl, sym, ap, subst, ◌∙◌}
+use Rattle.std.proofs.Common.{◌≡◌, ◌⊎◌, inl, inr, ℕ, List, Ok, sym, ap, ◌∙◌}
 use Rattle.bm_term.specs.declared.triple.Triple.{Triple}
 use Rattle.alg_model.specs.declared.query.Query.{Query}
-use Rattle.alg_model.specs.Answers.{answers_of, answers_to}
+use Rattle.alg_model.specs.Answers.{answers_of}
 use Rattle.alg_model.specs.Pattern.{algebra_of}
-use Rattle.alg_model.specs.Query.{AbstractQuery, abstract_of}
+use Rattle.alg_model.specs.Query.{abstract_of}
 use Rattle.alg_model.specs.Row.{Row}
 use Rattle.sparql_parse.specs.declared.fault.QueryFault.{QueryFault}
 use Rattle.sparql_parse.specs.declared.fault.QueryFault.TheVariants as query_faults
 use Rattle.sparql_parse.specs.Denotes.{Denotes, IsFaultOf}
 use Rattle.sparql_parse.proofs.DenotingLaws.{denotes-reading, fault-reading}
-use Rattle.sparql_parse.specs.computed.Reading.{query_reading}
 use Rattle.well_designed.specs.declared.refusals.Refusal.{Refusal}
-use Rattle.well_designed.specs.Computed.{refusal_in}
 use Rattle.well_designed.specs.Refusals.{IsAccepted, IsRefused}
 use Rattle.well_designed.proofs.ComputedRefusal.{refusal_in-accepted, refusal_in-refused}
 use Rattle.result_write.specs.declared.form.Form.{Form}
@@ -21,8 +19,8 @@ use Rattle.bm_query.specs.Faults.{fault_of}
 use Rattle.bm_query.specs.declared.fault.AnswerFault.{AnswerFault}
 use Rattle.bm_top.specs.declared.undecided.Undecided.{Undecided}
 use Rattle.bm_top.specs.declared.undecided.Undecided.TheVariants as undecided
-use Rattle.bm_top.specs.Lines.{fault_line, pattern_line, query_line}
-use Rattle.bm_top.specs.Standard.{IsAnswerOver, IsAnswerOrRefusal}
+use Rattle.bm_top.specs.Lines.{fault_line, pattern_line}
+use Rattle.bm_top.specs.Standard.{IsAnswerOrRefusal}
 use Rattle.bm_top.specs.Verdict.{Verdict, answered, refused}
 use Rattle.bm_top.specs.steps.Undecided.{from_query}
 use Rattle.bm_top.specs.steps.Ending.{Says}

@@ -1,10 +1,10 @@
 -- A data file that is read in pieces.
-use Rattle.std.proofs.Common.{◌≡◌, ℕ, ◌+◌, ◌-◌, ◌<◌, ◌≤◌, ◌^◌, List, [], ◌++◌, length, take, Option, None, Some, Result, Ok, Err, IsErrOf, IsSome, refl, sym, ap, subst, ◌∙◌, length-append, length-take, arith}
+use Rattle.std.proofs.Common.{◌≡◌, ℕ, ◌-◌, ◌<◌, ◌≤◌, ◌^◌, List, [], ◌++◌, length, take, Option, Some, Result, Ok, Err, IsErrOf, IsSome, refl, sym, ap, subst, ◌∙◌, length-append, length-take, arith}
 use Rattle.std.proofs.lemmas.List.{append-nil}
 use Rattle.bm_term.specs.Kept.{Kept}
 use Rattle.nt_read.specs.declared.lines.FeedFault.{FeedFault}
 use Rattle.nt_read.specs.declared.lines.FeedFault.TheVariants as feed_faults
-use Rattle.nt_read.specs.scanning.Lines.{first_bad, lines_of, triples_of}
+use Rattle.nt_read.specs.scanning.Lines.{lines_of, triples_of}
 use Rattle.nt_read.specs.Pieces.{Stream, new_stream}
 use Rattle.nt_read.specs.Feeding.{AnswersLines, HasRead, TakesLines}
 use Rattle.nt_read.proofs.FedPieces.{new_read}
@@ -17,8 +17,8 @@ use Rattle.bm_world.specs.World.{Step, Takes}
 use Rattle.bm_world.specs.declared.reading.ReadEnd.{ReadEnd}
 use Rattle.bm_world.specs.declared.reading.ReadEnd.TheVariants as read_ends
 use Rattle.bm_world.proofs.Steps.{Step-weaken}
-use Rattle.bm_world.proofs.WholeFile.{reads_all, reads_fault, reads_more, reads_no_memory, reads_none, reads_too_long}
-use Rattle.bm_top.specs.Pieces.{CameInPieces, IsReadAs, ReadsPieces}
+use Rattle.bm_world.proofs.WholeFile.{reads_all, reads_more, reads_no_memory, reads_none, reads_too_long}
+use Rattle.bm_top.specs.Pieces.{CameInPieces, IsReadAs}
 use Rattle.bm_top.specs.steps.Pieces.{CameAsData, SoFar, end_of}
 use Rattle.bm_top.proofs.ReadData.{read-triples}
 

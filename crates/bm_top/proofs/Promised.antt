@@ -5,17 +5,16 @@ use Rattle.bm_world.specs.declared.world.Faults.{Faults}
 use Rattle.bm_world.specs.Meanings.{Files, Meanings, with_complained}
 use Rattle.bm_world.specs.World.{AppendsAll, NothingIsMade, Rose, Step}
 use Rattle.bm_world.proofs.Steps.{Step-then}
-use Rattle.result_write.specs.declared.form.Form.{Form}
 use Rattle.bm_top.specs.declared.ending.Ending.{Ending}
 use Rattle.bm_top.specs.declared.ending.Ending.TheVariants as ends
 use Rattle.bm_top.specs.Command.{names_read, request_of}
 use Rattle.bm_top.specs.steps.Ending.{Ends, HasReason, Moves, line_of, status_of}
 use Rattle.bm_top.specs.Lines.{read_fault_line}
-use Rattle.bm_top.specs.Run.{Complains, HasCauses, IsComplete, IsHonest, KeepsPromises, LeavesFiles, OnlyComplains, OpensInTurn, Outputs, Prints}
+use Rattle.bm_top.specs.Run.{HasCauses, IsComplete, KeepsPromises, OnlyComplains, Outputs, Prints}
 use Rattle.bm_top.specs.Standard.{IsVerdict}
 use Rattle.bm_top.specs.Verdict.{Verdict, answered, refused}
 use Rattle.bm_top.proofs.Promises.{Complains-ended, IsComplete-ended, IsHonest-ended, LeavesFiles-ended, OnlyComplains-said, OpensInTurn-said, Outputs-ended, made-said, refusal_status-is}
-use Rattle.bm_top.proofs.StandardLaws.{asked_index_verdict, asked_verdict, request_one, request_some}
+use Rattle.bm_top.proofs.StandardLaws.{asked_index_verdict, asked_verdict, request_one}
 use Rattle.bm_top.proofs.StepsDone.{IsSomeAnd-wider, Step-known, none_made}
 use Rattle.bm_top.proofs.Verdicts.{One}
 

@@ -1,5 +1,5 @@
 -- Words and files have exactly one verdict, and what is asked over the index of data is asked over the data.
-use Rattle.std.proofs.Common.{◌≡◌, ◌≢◌, ℕ, ◌<◌, ◌≤◌, ◌^◌, true, false, List, [], ◌∷◌, codes, length, Option, Some, None, refl, sym, ap, subst, ◌∙◌, arith}
+use Rattle.std.proofs.Common.{◌≡◌, ◌≢◌, ℕ, ◌≤◌, false, List, length, Option, Some, None, refl, sym, ap, subst, ◌∙◌, arith}
 use Rattle.std.specs.Prelude.{cond}
 use Rattle.std.specs.FinMap.{get, insert, get-insert}
 use Rattle.std.proofs.lemmas.Cmp.{eq_by_cmp_equiv, nat_list_cmp_total}
@@ -12,16 +12,15 @@ use Rattle.std.specs.Cmp.Lexicographic.{slice_cmp}
 use Rattle.bm_term.specs.declared.triple.Triple.{Triple}
 use Rattle.result_write.specs.declared.form.Form.{Form}
 use Rattle.run_rows.specs.declared.form.RowForm.TheVariants.{V1}
-use Rattle.term_numbers.specs.Limits.{max_triples}
 use Rattle.index_file.specs.Image.{image_of}
 use Rattle.bm_world.specs.Meanings.{Files}
-use Rattle.bm_top.specs.Command.{Request, ask, load, query, check, form_of, request_of}
+use Rattle.bm_top.specs.Command.{Request, ask, load, query, check}
 use Rattle.bm_top.specs.Lines.{max_data_bytes, max_query_bytes, max_index_bytes, usage_line}
-use Rattle.bm_top.specs.Standard.{Asks, AsksIndex, HoldBytes, IsAnswer, IsAnswerOrRefusal, answer, IsAskVerdict, IsCheckVerdict, IsCounted, IsDecidedBy, missing, too_long, read, IsDecidedByData, bad_data, too_many, too_long_image, good_data, IsDecidedByIndex, damaged, good_index, IsGraphOf, IsIndexOf, IsIndexOfData, IsLoadVerdict, IsQueryVerdict, IsRequestVerdict, IsStored, IsVerdict}
+use Rattle.bm_top.specs.Standard.{Asks, AsksIndex, HoldBytes, IsAnswer, IsAnswerOrRefusal, answer, IsAskVerdict, IsDecidedBy, missing, too_long, read, IsDecidedByData, bad_data, too_many, too_long_image, good_data, IsDecidedByIndex, good_index, IsGraphOf, IsIndexOf, IsIndexOfData, IsLoadVerdict, IsQueryVerdict, IsRequestVerdict, IsStored, IsVerdict}
 use Rattle.bm_top.specs.Verdict.{Verdict, answered, files_after, refused}
 use Rattle.bm_top.proofs.DataIndex.{graph_index}
 use Rattle.bm_top.proofs.ReadData.{graph-one}
-use Rattle.bm_top.proofs.Verdicts.{HasOne, One, answer_one, answer_some, counted_one, data_one, data_some, good_then, index_one, index_some, index_then, read_next, read_one, read_some, stored_one}
+use Rattle.bm_top.proofs.Verdicts.{HasOne, One, answer_one, answer_some, counted_one, data_one, data_some, index_one, index_some, index_then, read_next, read_one, read_some, stored_one}
 
 -- a command has at most one verdict
 pub request_one : (files : Files) (request : Option Request) → One (IsRequestVerdict files request)

@@ -8,7 +8,7 @@ use Rattle.std.specs.declared.alloc.Global.{Global}
 use Rattle.bm_term.proofs.Elements.{Contains-head, Contains-nil, Contains-tail}
 use Rattle.bm_world.specs.declared.world.Failed.{Failed}
 use Rattle.bm_world.specs.declared.world.Faults.{Faults}
-use Rattle.bm_world.specs.Meanings.{Files, Meanings, file_at, with_made, with_opened, with_printed}
+use Rattle.bm_world.specs.Meanings.{Files, Meanings, with_made, with_opened, with_printed}
 use Rattle.bm_world.specs.Reading.{ReadsAll, ReadsWhole}
 use Rattle.bm_world.specs.World.{AppendsAll, NothingIsMade, RisesOnErr, Step, Rose, IsMissing}
 use Rattle.bm_world.specs.declared.reading.ReadEnd.{ReadEnd}
@@ -18,12 +18,11 @@ use Rattle.bm_top.specs.declared.undecided.Undecided.{Undecided}
 use Rattle.bm_top.specs.declared.undecided.Undecided.TheVariants as undecided
 use Rattle.bm_top.specs.declared.ending.Ending.{Ending}
 use Rattle.bm_top.specs.declared.ending.Ending.TheVariants as ends
-use Rattle.bm_top.specs.Lines.{read_fault_line, limit_line}
+use Rattle.bm_top.specs.Lines.{read_fault_line}
 use Rattle.bm_top.specs.Run.{OpensInTurn}
 use Rattle.bm_top.specs.Standard.{IsDecidedBy, missing, read as read_whole}
 use Rattle.bm_top.specs.Verdict.{Verdict, answered, refused, stores}
 use Rattle.bm_top.specs.steps.Printing.{after_writing}
-use Rattle.result_write.specs.declared.form.Form.{Form}
 use Rattle.result_write.specs.declared.form.WriteEnd.{WriteEnd}
 use Rattle.result_write.specs.declared.form.WriteEnd.TheVariants as write_ends
 use Rattle.result_write.specs.Printing.{HasWriteCause, Prints}

@@ -1,29 +1,28 @@
 -- Each kind of step has some verdict, and no other: files, data, indexes, queries and what is stored.
-use Rattle.std.proofs.Common.{◌≡◌, ◌⊎◌, inl, inr, ℕ, ◌<◌, ◌≤◌, ◌^◌, List, length, Option, Some, None, refl, sym, ap, subst, ◌∙◌, arith}
+use Rattle.std.proofs.Common.{◌≡◌, ◌⊎◌, inl, inr, ℕ, ◌<◌, ◌≤◌, List, length, Option, Some, None, refl, sym, ap, subst, ◌∙◌, arith}
 use Rattle.std.specs.FinMap.{get}
 use Rattle.std.proofs.lemmas.Bool.{cases_lt}
 use Rattle.bm_term.specs.declared.triple.Triple.{Triple}
-use Rattle.bm_term.specs.Graph.{graph_of}
 use Rattle.byte_tables.specs.Numbers.{IsBytes}
 use Rattle.nt_read.specs.scanning.Lines.{first_bad}
 use Rattle.sparql_parse.specs.computed.Reading.{query_reading}
 use Rattle.result_write.specs.declared.form.Form.{Form}
 use Rattle.run_rows.specs.declared.form.RowForm.TheVariants.{V1}
 use Rattle.term_numbers.specs.Limits.{max_triples}
-use Rattle.index_file.specs.Conditions.{IsImageOf, IsIndex}
+use Rattle.index_file.specs.Conditions.{IsIndex}
 use Rattle.index_file.specs.Damage.{IsFirstFailing}
-use Rattle.index_file.specs.Image.{graph_in as graph_in_index, image_of}
+use Rattle.index_file.specs.Image.{image_of}
 use Rattle.index_file.specs.declared.damaged.Part.{Part}
 use Rattle.index_file.proofs.DecidedLawsOfParts.{first_failing_is_one, index_has_none_failing, index_or_first_failing}
 use Rattle.index_file.proofs.ImageLaws.{image_of_one, index_exactly}
 use Rattle.index_file.proofs.WritingLaws.{IsIndex-image_of}
 use Rattle.bm_world.specs.Meanings.{Files}
 use Rattle.bm_top.specs.Lines.{max_index_bytes, bad_line_line, damaged_line, image_too_long_line, limit_line, read_fault_line, too_many_triples_line}
-use Rattle.bm_top.specs.Standard.{HasTooManyTriples, HoldBytes, IsAnswerOrRefusal, IsBadData, IsCounted, IsDecidedBy, missing, too_long, read, HasTooLongImage, IsDecidedByData, bad_data, too_many, too_long_image, good_data, IsDecidedByIndex, damaged, good_index, IsGraphOf, IsIndexOf, IsStored}
+use Rattle.bm_top.specs.Standard.{IsAnswerOrRefusal, IsCounted, IsDecidedBy, missing, too_long, read, IsDecidedByData, bad_data, too_many, too_long_image, good_data, IsDecidedByIndex, damaged, good_index, IsGraphOf, IsIndexOf, IsStored}
 use Rattle.bm_top.specs.Verdict.{Verdict, refused}
 use Rattle.bm_top.specs.steps.VerdictOf.{answering, graph_in}
 use Rattle.bm_top.proofs.DataIndex.{index-read}
-use Rattle.bm_top.proofs.ReadData.{IsRead, graph-read, read-graph, graph-one, bad-read, read-bad, is-answering, answering-is}
+use Rattle.bm_top.proofs.ReadData.{graph-read, read-graph, graph-one, bad-read, read-bad, is-answering, answering-is}
 
 -- there is such a verdict
 abbrev pub HasOne : (Verdict → Type 0) → Type 0

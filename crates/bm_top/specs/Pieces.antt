@@ -1,5 +1,5 @@
 -- What reading a data file in pieces gives.
-use Rattle.std.specs.Prelude.{◌≡◌, ℕ, ◌≤◌, List, length, Option, None, Some, Result, Ok, Err, IfOk}
+use Rattle.std.specs.Prelude.{ℕ, ◌≤◌, List, length, Option, None, Some, Result, Ok, Err, IfOk}
 use Rattle.bm_term.specs.declared.triple.Triple.{Triple}
 use Rattle.bm_term.specs.Kept.{Kept, HasTaken}
 use Rattle.nt_read.specs.Lines.{IsFirstBadLine}

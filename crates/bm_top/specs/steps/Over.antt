@@ -1,5 +1,5 @@
 -- Carries proofs only: what the answers of a text over an index say of the verdict.
-use Rattle.std.specs.Prelude.{◌≡◌, ℕ, List, length, Result, Ok, Err}
+use Rattle.std.specs.Prelude.{◌≡◌, ℕ, List, Result, Ok, Err}
 use Rattle.bm_term.specs.declared.triple.Triple.{Triple}
 use Rattle.alg_model.specs.Query.{abstract_of}
 use Rattle.term_numbers.specs.Numbering.{Numbering}

@@ -1,18 +1,16 @@
 -- Carries proofs only: the graph of data, and the verdict of a query over it, as functions that read them.
-use Rattle.std.specs.Prelude.{ℕ, Bool, List, Option, Some, None, Result, Ok, Err, nat_lt, length, if◌then◌else◌}
+use Rattle.std.specs.Prelude.{ℕ, List, Option, Some, None, Result, Ok, Err}
 use Rattle.bm_term.specs.Graph.{graph_of}
 use Rattle.alg_model.specs.Answers.{answers_to}
 use Rattle.alg_model.specs.Query.{AbstractQuery}
-use Rattle.nt_read.specs.scanning.Lines.{first_bad, lines_of, triples_of}
-use Rattle.sparql_parse.specs.computed.Reading.{query_reading}
+use Rattle.nt_read.specs.scanning.Lines.{lines_of, triples_of}
 use Rattle.sparql_parse.specs.declared.fault.QueryFault.{QueryFault}
 use Rattle.well_designed.specs.Computed.{refusal_in}
 use Rattle.well_designed.specs.declared.refusals.Refusal.{Refusal}
 use Rattle.result_write.specs.declared.form.Form.{Form}
 use Rattle.result_write.specs.ResultText.{result_text}
 use Rattle.bm_term.specs.declared.triple.Triple.{Triple}
-use Rattle.term_numbers.specs.Limits.{max_triples}
-use Rattle.bm_top.specs.Lines.{too_many_triples_line, bad_line_line, fault_line, pattern_line}
+use Rattle.bm_top.specs.Lines.{fault_line, pattern_line}
 use Rattle.bm_top.specs.Verdict.{Verdict, answered, refused}
 
 -- a query is refused, or answered over a graph

@@ -1,4 +1,4 @@
-use Rattle.std.proofs.Common.{◌≤◌, [], ◌∷◌, Err, length, ap, refl, arith}
+use Rattle.std.proofs.Common.{◌≤◌, [], Err, length, ap, refl, arith}
 use Rattle.bm_world.proofs.Steps.{Step-then, Step-weaken}
 use Rattle.bm_top.specs.Standard.{IsCounted, IsDecidedByIndex}
 use Rattle.bm_top.proofs.StepsDone.{Ends-reading, Ends-unread, HasReason-unread, HasReason-later, Moves-more, Moves-unread}

@@ -1,6 +1,6 @@
 use Rattle.std.proofs.Common.{[]}
 use Rattle.bm_world.proofs.Steps.{Step-stay, Step-weaken}
-use Rattle.bm_top.proofs.StepsDone.{EndsSo-undecided, EndsSo-written, HasReason-undecided, HasReason-written, Moves-written}
+use Rattle.bm_top.proofs.StepsDone.{EndsSo-undecided, EndsSo-written, HasReason-undecided, Moves-written}
 use Rattle.bm_top.proofs.index_steps.print_answers.Goals as goal
 
 pub returns-in-Ok-clause-step : goal.returns-in-Ok-clause-step

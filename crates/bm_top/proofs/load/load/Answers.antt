@@ -1,8 +1,12 @@
-use Rattle.std.proofs.Common.{◌≤◌, [], ◌∷◌, Err, length, ap, refl, arith}
+use Rattle.std.proofs.Common.{[], Err, ap, refl}
+use Rattle.bm_world.specs.Meanings.{Meanings}
 use Rattle.bm_world.proofs.Steps.{Step-then, Step-weaken}
 use Rattle.bm_top.specs.Standard.{IsDecidedByData, IsStored}
-use Rattle.bm_top.proofs.StepsDone.{Ends-reading, Ends-unread, HasReason-any, HasReason-unread, HasReason-later, Moves-more, Moves-unread}
+use Rattle.bm_top.proofs.StepsDone.{Ends-reading, Ends-unread, HasReason-any, HasReason-unread, HasReason-later, Moves-more, Moves-unread, none_made}
 use Rattle.bm_top.proofs.load.load.Goals as goal
+
+pub store_data-requires-clause-made : goal.store_data-requires-clause-made
+store_data-requires-clause-made g c = none_made _ _ c.requires (Step-weaken c.in-Ok.ensures.came.step (λ m n reads. ap (λ (w : Meanings). w.made) reads.1))
 
 pub store_data-requires-clause-read : goal.store_data-requires-clause-read
 store_data-requires-clause-read g c = let came = c.in-Ok.ensures.came in (came.bytes, came.read)

@@ -1,4 +1,4 @@
-use Rattle.std.proofs.Common.{◌<◌, ◌≤◌, ◌∙◌, ⊎_elim, inl, refl, arith}
+use Rattle.std.proofs.Common.{◌∙◌, ⊎_elim, inl, arith}
 use Rattle.std.proofs.lemmas.Result.{err_from_is_err_and}
 use Rattle.bm_world.proofs.WholeFile.{is_open, reads_fault}
 use Rattle.bm_world.proofs.Steps.{rose_later}
