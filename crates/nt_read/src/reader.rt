@@ -1,5 +1,5 @@
 //! A stream of bytes that comes in pieces.
-ghost use Rattle.std.specs.Prelude.{◌≡◌, ◌<◌, ◌^◌, ℕ, List, [], ◌∷◌, ◌++◌, length, Ok, Err, OnOk, IfOk, IfErr};
+ghost use Rattle.std.specs.Prelude.{◌≡◌, ◌<◌, ◌^◌, ℕ, List, [], ◌∷◌, ◌++◌, length, Some, Ok, Err, OnOk, IfOk, IfErr};
 ghost use Rattle.bm_term.specs.Kept.{Kept};
 ghost use Rattle.nt_read.specs.Pieces.{new_stream, ends_with_cr, ended_in, cut};
 ghost use Rattle.nt_read.specs.Feeding.{AnswersLines, TakesLines, AnswersEnded, TakesEnded, HasRead};
@@ -83,10 +83,7 @@ impl Reader {
                 self.after_cr = ends_with_carriage_return(self.after_cr, piece);
                 Ok(())
             }
-            Err(fault) => {
-                self.fault = Some(fault);
-                Err(fault)
-            }
+            Err(fault) => fail(&mut self.fault, fault),
         }
     }
 
@@ -118,12 +115,18 @@ impl Reader {
                 self.after_cr = false;
                 Ok(())
             }
-            Err(fault) => {
-                self.fault = Some(fault);
-                Err(fault)
-            }
+            Err(fault) => fail(&mut self.fault, fault),
         }
     }
+}
+
+/// Keeps a fault, and answers it.
+fn fail(kept: &mut Option<FeedFault>, fault: FeedFault) -> Result<(), FeedFault>
+    ensures kept { kept.new ≡ Some fault }
+    ensures answer { result ≡ Err fault }
+{
+    *kept = Some(fault);
+    Err(fault)
 }
 
 /// Whether the bytes end with CR, or `was` where there are none.

@@ -1,6 +1,5 @@
 use crate::{FeedFault, Reader};
 use bm_term::TripleList;
-use std::alloc::Global;
 use std::test::Fail;
 
 /// The bytes of a file, the number of triples that are taken from it, and its first bad line, or 0.
@@ -55,12 +54,8 @@ const FILES: [(&[u8], usize, u64); 24] = [
     (b"<urn:s> <urn:p> <urn:o> .\n\n\nx\ny\n", 1, 4),
 ];
 
-/// Feeds two pieces, and answers how many triples were taken, and the first bad line or 0.
-fn read(alloc: Global, first: &[u8], second: &[u8]) -> Result<(usize, u64), FeedFault> {
-    let mut reader = Reader::new(alloc);
-    let mut triples = TripleList::new(alloc);
-    reader.feed(first, &mut triples)?;
-    reader.feed(second, &mut triples)?;
+/// Ends the stream, and answers how many triples were taken, and the first bad line or 0.
+fn found(mut reader: Reader, mut triples: TripleList) -> Result<(usize, u64), FeedFault> {
     match reader.finish(&mut triples) {
         Ok(()) => Ok((triples.as_slice().len(), 0)),
         Err(FeedFault::NotNTriples { line }) => Ok((triples.as_slice().len(), line)),
@@ -73,11 +68,67 @@ fn files_are_read_however_they_are_cut(rt: HostRuntime) -> Result<(), Fail> {
     for (bytes, triples, line) in FILES {
         for at in 0..bytes.len() {
             let (first, second) = bytes.split_at(at);
-            let found = read(rt.alloc(), first, second)?;
-            assert!(rt; found == (triples, line), "{bytes:?} cut at {at}");
+            let mut reader = Reader::new(rt.alloc());
+            let mut taken = TripleList::new(rt.alloc());
+            let _ = reader.feed(first, &mut taken);
+            let _ = reader.feed(second, &mut taken);
+            assert!(rt;
+                found(reader, taken)? == (triples, line),
+                "{bytes:?} cut at {at}"
+            );
         }
-        let found = read(rt.alloc(), bytes, b"")?;
-        assert!(rt; found == (triples, line), "{bytes:?}");
+    }
+    Ok(())
+}
+
+#[test]
+fn files_are_read_byte_by_byte(rt: HostRuntime) -> Result<(), Fail> {
+    for (bytes, triples, line) in FILES {
+        let mut reader = Reader::new(rt.alloc());
+        let mut taken = TripleList::new(rt.alloc());
+        for piece in bytes.chunks(1) {
+            let _ = reader.feed(piece, &mut taken);
+        }
+        assert!(rt; found(reader, taken)? == (triples, line), "{bytes:?}");
+    }
+    Ok(())
+}
+
+/// Three pieces, and how many triples are taken once each of them is fed, and at the end.
+const PIECES: [([&[u8]; 3], [usize; 4]); 6] = [
+    ([b"<urn:s> <urn:p> ", b"<urn:o> .", b"\n"], [0, 0, 1, 1]),
+    ([b"<urn:s> <urn:p> <urn:o> .\r", b"\n", b""], [1, 1, 1, 1]),
+    ([b"<urn:s> <urn:p> <urn:o> .\r", b"", b"\n"], [1, 1, 1, 1]),
+    (
+        [
+            b"<urn:s> <urn:p> <urn:o> .\n<urn:s> ",
+            b"<urn:p> ",
+            b"<urn:o> .",
+        ],
+        [1, 1, 1, 2],
+    ),
+    (
+        [
+            b"#",
+            b"\r<urn:s> <urn:p> <urn:o> .\n#",
+            b"\r\n<urn:s> <urn:p> <urn:o> .\r",
+        ],
+        [0, 1, 2, 2],
+    ),
+    ([b"", b"", b""], [0, 0, 0, 0]),
+];
+
+#[test]
+fn lines_are_handed_on_as_they_end(rt: HostRuntime) -> Result<(), Fail> {
+    for (pieces, counts) in PIECES {
+        let mut reader = Reader::new(rt.alloc());
+        let mut taken = TripleList::new(rt.alloc());
+        for (piece, count) in pieces.iter().zip(counts.iter()) {
+            reader.feed(piece, &mut taken)?;
+            assert!(rt; taken.as_slice().len() == *count, "{pieces:?}");
+        }
+        reader.finish(&mut taken)?;
+        assert!(rt; taken.as_slice().len() == counts[3], "{pieces:?}");
     }
     Ok(())
 }

@@ -70,7 +70,7 @@ returns-clause-takes g c =
 pub returns-clause-last : goal.returns-clause-last
 returns-clause-last g c =
     let whole = (front_split c.args.text.now.items c.args.bytes.now c.in-Some.line.now c.in-Some.after.now c.requires c.in-Some.ensures.some).1 in
-    c.in_ok-keep-2.ensures.ok ∙ ap (λ xs. xs ++ c.in_ok-last.last.now) c.in_ok-ends_before.ensures.cleared ∙ c.in_ok-last.ensures.last ∙ sym whole
+    rw (c.in_ok-keep-2.ensures.ok, c.in_ok-ends_before.ensures.cleared, c.in_ok-last.ensures.last) (sym whole)
 
 pub returns-clause-counts : goal.returns-clause-counts
 returns-clause-counts g c =

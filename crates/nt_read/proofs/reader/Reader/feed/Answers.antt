@@ -35,5 +35,8 @@ pub returns-in-Err-clause-read : goal.returns-in-Err-clause-read
 returns-in-Err-clause-read g c bytes kept is =
     let stream : Stream = record { ends = c.self.inside.ends; text = c.self.inside.text.items; after_cr = c.self.inside.after_cr } in
     let old : c.args.self.now ≡ Ok stream = sym c.self.view_is ∙ ap (seen stream) c.in_default.is in
-    piece_failed bytes c.args.piece.now stream kept (g.T.Taker.kept c.args.into.now) (g.T.Taker.kept c.read_on.new.into) c.in-Err.fault (rw old at is)
-    (rw c.without_line_feed-bytes.ensures at c.in-Err.ensures.answers) (rw c.without_line_feed-bytes.ensures at c.in-Err.ensures.takes)
+    let after : Stream = record { ends = c.self.inside.ends; text = c.read_on.new.text.items; after_cr = c.self.inside.after_cr } in
+    let kept_of = g.T.Taker.kept in
+    let P : Result Stream FeedFault → Type 0 = λ reader. HasRead (bytes ++ c.args.piece.now) reader kept (kept_of c.read_on.new.into) in
+    subst P (sym (ap (seen after) c.fail.ensures.kept)) (piece_failed bytes c.args.piece.now stream kept (kept_of c.args.into.now) (kept_of c.read_on.new.into) c.in-Err.fault (rw old at is)
+    (rw c.without_line_feed-bytes.ensures at c.in-Err.ensures.answers) (rw c.without_line_feed-bytes.ensures at c.in-Err.ensures.takes))

@@ -33,11 +33,11 @@ pub returns-in-Err-clause-answers_all : goal.returns-in-Err-clause-answers_all
 returns-in-Err-clause-answers_all g c bytes kept small is =
     let stream : Stream = record { ends = c.self.inside.ends; text = c.self.inside.text.items; after_cr = c.self.inside.after_cr } in
     let old : c.args.self.now ≡ Ok stream = sym c.self.view_is ∙ ap (seen stream) c.in_default.is in
-    finish_answers bytes stream kept (g.T.Taker.kept c.args.into.now) (Err c.in-Err.fault) small (rw old at is) (rw c.deref.ensures.value at c.in-Err.ensures.answers)
+    rw c.fail.ensures.answer (finish_answers bytes stream kept (g.T.Taker.kept c.args.into.now) (Err c.in-Err.fault) small (rw old at is) (rw c.deref.ensures.value at c.in-Err.ensures.answers))
 
 pub returns-in-Err-clause-takes_all : goal.returns-in-Err-clause-takes_all
 returns-in-Err-clause-takes_all g c bytes kept small is =
     let stream : Stream = record { ends = c.self.inside.ends; text = c.self.inside.text.items; after_cr = c.self.inside.after_cr } in
     let old : c.args.self.now ≡ Ok stream = sym c.self.view_is ∙ ap (seen stream) c.in_default.is in
-    finish_takes bytes stream kept (g.T.Taker.kept c.args.into.now) (g.T.Taker.kept c.read_next.new.into) (Err c.in-Err.fault) small (rw old at is)
-    (rw c.deref.ensures.value at c.in-Err.ensures.answers) (rw c.deref.ensures.value at c.in-Err.ensures.takes)
+    rw c.fail.ensures.answer (finish_takes bytes stream kept (g.T.Taker.kept c.args.into.now) (g.T.Taker.kept c.read_next.new.into) (Err c.in-Err.fault) small (rw old at is)
+    (rw c.deref.ensures.value at c.in-Err.ensures.answers) (rw c.deref.ensures.value at c.in-Err.ensures.takes))
