@@ -13,7 +13,7 @@ use Rattle.bm_term.specs.Kept.{triple_eq, after}
 use Rattle.bm_term.specs.declared.triple.Triple.{Triple}
 use Rattle.term_numbers.specs.Order.{Numbered}
 use Rattle.term_numbers.specs.held.Renumbered.{PlacesAreBelow}
-use Rattle.term_numbers.specs.held.Seen.{Adds, IsSeen, SeesTriple, triple_at, triples_at, AllAreSeen}
+use Rattle.term_numbers.specs.held.Seen.{IsSeen, SeesTriple, triple_at, triples_at, AllAreSeen}
 use Rattle.term_numbers.proofs.NumberingLaws.{one_place, Contains-map}
 use Rattle.term_numbers.proofs.SeenLaws.{triple_at-seen, seen_at, below_seen, below-more, triples_at-more}
 use Rattle.term_numbers.proofs.SightLaws.{triple_eq-Decides, kept_with}
