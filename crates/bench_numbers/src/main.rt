@@ -1,5 +1,6 @@
-//! How long triples take to be numbered: those of a file that is named, or of a ring with tags. What was found goes to
-//! the standard output, and the times to the standard error.
+//! How long triples take to be numbered: those of a file that is named, or of a ring with tags. They are first read and
+//! numbered as they come. Then they are read into a list, which is numbered, unless a second word stands after the name of
+//! the file. What was found goes to the standard output, and the times to the standard error.
 #![tactic(auto)]
 
 ghost use Rattle.std.specs.Prelude.{All, IfOk};
@@ -11,7 +12,7 @@ use std::alloc::{AllocError, Global};
 use std::hash::RandomState;
 use std::time::Instant;
 use std::{env, fs, io};
-use term_numbers::{NumberFault, Numbers, number, number_by};
+use term_numbers::{Builder, NumberFault, Numbers, number, number_by};
 
 const NODES: u32 = 10_000;
 
@@ -57,6 +58,24 @@ fn tell(rt: &HostRuntime, numbers: Result<Numbers, NumberFault>, start: Instant)
     eprintln!(rt; "{taken:?}")
 }
 
+fn complain(rt: &HostRuntime, fault: FeedFault) -> io::Result<()> {
+    match fault {
+        FeedFault::NotNTriples { line } => println!(rt; "line {line} is bad"),
+        FeedFault::Memory => Err(AllocError.into()),
+    }
+}
+
+/// As the triples come, without a list of them. The time is that of reading too.
+fn time_built(rt: &HostRuntime, bytes: &[u8]) -> io::Result<()> {
+    let hashers = RandomState::new(rt)?;
+    let start = Instant::now(rt)?;
+    let mut builder = Builder::with_hasher(rt.alloc(), hashers, u32::MAX);
+    match read_lines(rt.alloc(), bytes, &mut builder) {
+        Ok(()) => tell(rt, builder.finish(), start),
+        Err(fault) => complain(rt, fault),
+    }
+}
+
 /// As a program without the system at hand does it.
 fn time_keyed(rt: &HostRuntime, triples: &[Triple]) -> io::Result<()>
     requires { All IsRdfTriple triples.now }
@@ -78,12 +97,15 @@ fn time_random(rt: &HostRuntime, triples: &[Triple]) -> io::Result<()>
 
 fn main(rt: HostRuntime) -> io::Result<()> {
     let bytes = data(&rt)?;
+    time_built(&rt, &bytes)?;
+    if env::args(&rt)?.nth(2).is_some() {
+        return Ok(());
+    }
     match read(rt.alloc(), &bytes) {
         Ok(triples) => {
             time_keyed(&rt, triples.as_slice())?;
             time_random(&rt, triples.as_slice())
         }
-        Err(FeedFault::NotNTriples { line }) => println!(rt; "line {line} is bad"),
-        Err(FeedFault::Memory) => Err(AllocError.into()),
+        Err(fault) => complain(&rt, fault),
     }
 }

@@ -1,5 +1,6 @@
 pub mod Ascending
 pub mod EntryLaws
+pub mod Examples
 pub mod NumberLaws
 pub mod NumberingLaws
 pub mod RenumberLaws

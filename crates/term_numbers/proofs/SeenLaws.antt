@@ -1,5 +1,5 @@
 -- Laws of texts and triples in the order of first sight.
-use Rattle.std.proofs.Common.{◌≡◌, ℕ, zero, suc, ◌⊎◌, inl, inr, Bool, true, false, bytes_eq, List, [], ◌∷◌, ◌++◌, Some, if◌then◌else◌, Contains, map, refl, sym, ◌∙◌, ap, subst, append_assoc, append-nil, length-append, arith, ◌<◌, length, get_or, All, Result, Ok, Err, IfOk}
+use Rattle.std.proofs.Common.{◌≡◌, ℕ, zero, suc, ◌⊎◌, inl, inr, Bool, false, bytes_eq, List, [], ◌∷◌, ◌++◌, Some, if◌then◌else◌, Contains, map, refl, sym, ◌∙◌, ap, subst, append_assoc, append-nil, length-append, arith, ◌<◌, length, get_or, All, Result, Ok, Err, IfOk}
 use Rattle.std.proofs.lemmas.List.{get_or_append_left}
 use Rattle.std.proofs.lemmas.List.Elements.{All-head, All-tail, All-weaker, Contains-push_cases}
 use Rattle.std.proofs.lemmas.List.Quantifiers.{position-Some}

@@ -1,5 +1,5 @@
 -- Distinct triples in the order of first sight, and what is kept of a list under a limit.
-use Rattle.std.proofs.Common.{◌≡◌, ◌↔◌, ℕ, ◌+◌, ◌<◌, ◌≤◌, ◌==◌, ◌⊎◌, inl, inr, Bool, true, false, ◌&&◌, ◌||◌, if◌then◌else◌, bytes_eq, List, [], ◌∷◌, ◌++◌, Some, Contains, length, take, get_or, IsTrue, Result, Ok, Err, IfOk, OnOk, IfErr, refl, sym, ap, ◌∙◌, subst, arith, true≢false, length-append}
+use Rattle.std.proofs.Common.{◌≡◌, ◌↔◌, ℕ, ◌+◌, ◌<◌, ◌≤◌, ◌==◌, ◌⊎◌, inl, inr, Bool, true, false, ◌&&◌, ◌||◌, if◌then◌else◌, bytes_eq, List, [], ◌∷◌, ◌++◌, Some, Contains, length, take, get_or, IsTrue, Result, Ok, Err, IfOk, OnOk, IfErr, refl, sym, ap, ◌∙◌, arith, true≢false, length-append}
 use Rattle.std.proofs.lemmas.Bool.{eqb-true, eqb-false}
 use Rattle.std.proofs.lemmas.Bool.Decides.{Decides-and}
 use Rattle.std.proofs.lemmas.List.{take_more}
@@ -31,8 +31,7 @@ use Rattle.term_numbers.proofs.Ascending.{set_of-is, set_of-same}
 pub triple_eq-Decides : (t u : Triple) → Decides (triple_eq t u) (t ≡ u)
 triple_eq-Decides t u =
     let first = Decides-and (bytes_eq t.subject u.subject) (bytes_eq t.predicate u.predicate) (bytes_decides t.subject u.subject) (bytes_decides t.predicate u.predicate) in
-    let all = Decides-and (bytes_eq t.subject u.subject && bytes_eq t.predicate u.predicate) (bytes_eq t.object u.object) first (bytes_decides t.object u.object) in
-    (
+    let all = Decides-and (bytes_eq t.subject u.subject && bytes_eq t.predicate u.predicate) (bytes_eq t.object u.object) first (bytes_decides t.object u.object) in (
       λ h. let e = all.0 h in λ i. record { subject = e.0.0 i; predicate = e.0.1 i; object = e.1 i },
       λ same. all.1 ((ap (λ (w : Triple). w.subject) same, ap (λ (w : Triple). w.predicate) same), ap (λ (w : Triple). w.object) same),
     )
@@ -105,9 +104,9 @@ length-first_sights ts =
     let is = set_of-is triple_cmp triple_cmp-total triple_cmp-exact ts in
     let apart : IsDistinct triple_eq (graph_of ts) = IsDistinct-from_AllPairs triple_eq-Decides (graph_of ts) (AllPairs-ascending triple_cmp triple_cmp-total (graph_of ts) is.ascends) in
     let members : (t : Triple) → is_member triple_eq (graph_of ts) t ≡ is_member triple_eq ts t = λ t.
-        let there = is_member-Decides triple_eq-Decides (graph_of ts) t in
-        let here = is_member-Decides triple_eq-Decides ts t in
-        one_answer (is_member triple_eq (graph_of ts) t) (is_member triple_eq ts t) there ((λ h. (is.same t).1 (here.0 h)), (λ at. here.1 ((is.same t).0 at))) in
+    let there = is_member-Decides triple_eq-Decides (graph_of ts) t in
+    let here = is_member-Decides triple_eq-Decides ts t in
+    one_answer (is_member triple_eq (graph_of ts) t) (is_member triple_eq ts t) there ((λ h. (is.same t).1 (here.0 h)), (λ at. here.1 ((is.same t).0 at))) in
     length-from_keys triple_eq-laws (first_sights ts) ts (sights_differ [] ts tt) (sight_members [] ts)
     ∙ sym (length-from_keys triple_eq-laws (graph_of ts) ts apart members)
 

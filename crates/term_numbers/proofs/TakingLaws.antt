@@ -13,7 +13,7 @@ use Rattle.bm_term.specs.Kept.{triple_eq, after}
 use Rattle.bm_term.specs.declared.triple.Triple.{Triple}
 use Rattle.term_numbers.specs.Order.{Numbered}
 use Rattle.term_numbers.specs.held.Renumbered.{PlacesAreBelow}
-use Rattle.term_numbers.specs.held.Seen.{Adds, IsSeen, SeesTriple, triple_at, triples_at, AllAreSeen}
+use Rattle.term_numbers.specs.held.Seen.{IsSeen, SeesTriple, triple_at, triples_at, AllAreSeen}
 use Rattle.term_numbers.proofs.NumberingLaws.{one_place, Contains-map}
 use Rattle.term_numbers.proofs.SeenLaws.{triple_at-seen, seen_at, below_seen, below-more, triples_at-more}
 use Rattle.term_numbers.proofs.SightLaws.{triple_eq-Decides, kept_with}
@@ -26,8 +26,7 @@ number_eq q r = (eqb q.0 r.0 && eqb q.1 r.1) && eqb q.2 r.2
 number_eq-Decides : (q r : Numbered) → Decides (number_eq q r) (q ≡ r)
 number_eq-Decides q r =
     let first = Decides-and (eqb q.0 r.0) (eqb q.1 r.1) (Decides-eqb q.0 r.0) (Decides-eqb q.1 r.1) in
-    let all = Decides-and (eqb q.0 r.0 && eqb q.1 r.1) (eqb q.2 r.2) first (Decides-eqb q.2 r.2) in
-    (
+    let all = Decides-and (eqb q.0 r.0 && eqb q.1 r.1) (eqb q.2 r.2) first (Decides-eqb q.2 r.2) in (
       λ h. let e = all.0 h in λ i. (e.0.0 i, e.0.1 i, e.1 i),
       λ same. all.1 ((ap (λ (w : Numbered). w.0) same, ap (λ (w : Numbered). w.1) same), ap (λ (w : Numbered). w.2) same),
     )
@@ -37,8 +36,7 @@ module _ (n p : List (List ℕ)) (q : Numbered) (t : Triple) (nodes_differ : IsD
   same_places : (r : Numbered) → PlacesAreBelow (length n) (length p) r → Decides (triple_eq t (triple_at n p r)) (q ≡ r)
   same_places r low =
       let at = seen_at n p r low in
-      let test = triple_eq-Decides t (triple_at n p r) in
-      (
+      let test = triple_eq-Decides t (triple_at n p r) in (
         λ h.
             let same = sym (test.0 h) in
             let s = one_place n q.0 r.0 t.subject nodes_differ seen.subject (at.subject ∙ ap (λ (u : Triple). Some u.subject) same) in

@@ -19,7 +19,8 @@ use std::marker::Model;
 /// A taker with a limit, which numbers triples as they come. It is seen as what it keeps: the distinct triples in the
 /// order of first sight, the limit, and whether there were more.
 ///
-/// It has each text once, and three numbers for each triple. A triple that it has costs three look-ups and no copy.
+/// It has each text once, and three numbers for each triple. A triple that it has costs look-ups and no copy. More than
+/// 4,294,967,295 nodes or predicates are want of memory too, as no number of four bytes is left.
 #[derive(Drop)]
 pub struct Builder<S: BuildHasher = BuildHasherDefault<DefaultHasher>> {
     nodes: IndexSet<Term, S>,
@@ -77,6 +78,7 @@ impl<S: BuildHasher> Builder<S> {
         if self.were_more {
             return Ok(());
         }
+        // Nothing may fail once the predicate is there, as each predicate has to be that of a triple.
         self.places.reserve(1)?;
         let places = see_triple(&mut self.nodes, &mut self.predicates, self.last, triple)?;
         self.last = places;
@@ -90,7 +92,8 @@ impl<S: BuildHasher> Builder<S> {
 }
 
 impl<S: BuildHasher + Drop> Builder<S> {
-    /// The numbers of the triples that were taken. `TooManyTriples` comes exactly where there were more than the limit.
+    /// The numbers of the triples that were taken. `TooManyTriples` comes exactly where there were more than the limit, and
+    /// `Memory` where memory runs out, or where there is no number of four bytes left.
     pub fn finish(self) -> Result<Numbers, NumberFault>
         ensures numbering { IfOk result (λ numbers. numbers ≡ numbering_of (graph_of self.list)) }
         ensures many { (result ≡ Err TooManyTriples) ↔ IsTrue self.were_more }

@@ -44,10 +44,7 @@ fn place_near<S: BuildHasher>(
 }
 
 /// The place of a term. If it is not there, a copy is put at the end.
-fn place_in<S: BuildHasher>(
-    terms: &mut IndexSet<Term, S>,
-    term: &Term,
-) -> Result<u32, AllocError>
+fn place_in<S: BuildHasher>(terms: &mut IndexSet<Term, S>, term: &Term) -> Result<u32, AllocError>
     ensures placed { IfOk result (IsPlaced terms.old.keys terms.new.keys term.now) }
     ensures stays { OnErr result (terms.new.keys ≡ terms.old.keys) }
 {

@@ -4,8 +4,8 @@ ghost use Rattle.bm_term.specs.declared.term_parts.TermKind.TheVariants.{Iri};
 ghost use Rattle.bm_term.specs.Canonical.{IsTextOf};
 ghost use Rattle.bm_term.specs.Triple.{IsRdfTriple};
 
-use crate::{NumberFault, Numbers, number};
-use bm_term::{Term, TermKind, TermRef, Triple};
+use crate::{Builder, NumberFault, Numbers, number};
+use bm_term::{Taker, Term, TermKind, TermRef, Triple};
 use std::alloc::Global;
 use std::test::Fail;
 
@@ -40,23 +40,39 @@ fn triples(alloc: Global, table: &[[&str; 3]]) -> Result<Vec<Triple>, Fail>
     Ok(list)
 }
 
-/// How the texts of a table are numbered: the counts, or the fault.
+/// The counts, or the fault.
+fn told(numbers: Result<Numbers, NumberFault>) -> Result<[u32; 5], NumberFault> {
+    let n = numbers?;
+    Ok([
+        n.shared(),
+        n.subjects(),
+        n.objects(),
+        n.predicates(),
+        n.triples(),
+    ])
+}
+
+/// How the texts of a table are numbered.
 fn counts(
     alloc: Global,
     table: &[[&str; 3]],
     limit: u32,
 ) -> Result<Result<[u32; 5], NumberFault>, Fail> {
     let list = triples(alloc, table)?;
-    Ok(match number(alloc, &list, limit) {
-        Ok(n) => Ok([
-            n.shared(),
-            n.subjects(),
-            n.objects(),
-            n.predicates(),
-            n.triples(),
-        ]),
-        Err(fault) => Err(fault),
-    })
+    Ok(told(number(alloc, &list, limit)))
+}
+
+/// How they are numbered as they come.
+fn built(
+    alloc: Global,
+    table: &[[&str; 3]],
+    limit: u32,
+) -> Result<Result<[u32; 5], NumberFault>, Fail> {
+    let mut builder = Builder::new(alloc, limit);
+    for texts in table {
+        builder.take(triple(alloc, texts)?)?;
+    }
+    Ok(told(builder.finish()))
 }
 
 /// Three distinct triples are more than two; two and a repeat are not.
@@ -71,6 +87,28 @@ fn the_limit_is_of_distinct_triples(rt: HostRuntime) -> Result<(), Fail> {
     assert_eq!(rt; counts(rt.alloc(), &[a, b, a], 2)?, Ok([1, 1, 1, 1, 2]));
     assert_eq!(rt; counts(rt.alloc(), &[a], 0)?, many);
     assert_eq!(rt; counts(rt.alloc(), &[], 0)?, Ok([0, 0, 0, 0, 0]));
+    Ok(())
+}
+
+/// A repeat counts once, wherever it comes, and after one triple too many nothing helps.
+#[test]
+fn triples_are_numbered_as_they_come(rt: HostRuntime) -> Result<(), Fail> {
+    let a = ["<a>", "<p>", "\"1\""];
+    let b = ["<b>", "<p>", "<a>"];
+    let c = ["<a>", "<q>", "\"1\""];
+    let many = Err(NumberFault::TooManyTriples);
+    assert_eq!(rt; built(rt.alloc(), &[], 0)?, Ok([0, 0, 0, 0, 0]));
+    assert_eq!(rt; built(rt.alloc(), &[a], 0)?, many);
+    assert_eq!(rt;
+        built(rt.alloc(), &[a, b, a, b, a], 2)?,
+        Ok([1, 1, 1, 1, 2])
+    );
+    assert_eq!(rt; built(rt.alloc(), &[a, b, a, c], 2)?, many);
+    assert_eq!(rt; built(rt.alloc(), &[a, c, b, a, b], 2)?, many);
+    assert_eq!(rt;
+        built(rt.alloc(), &[a, c, b, a, b], 3)?,
+        Ok([1, 1, 1, 2, 3])
+    );
     Ok(())
 }
 

@@ -1,4 +1,4 @@
-use Rattle.std.proofs.Common.{◌≡◌, length, List, subst, sym, ap, ◌∙◌}
+use Rattle.std.proofs.Common.{length, List, subst, sym, ap, ◌∙◌}
 use Rattle.std.proofs.lemmas.Result.{IfOk-weaker}
 use Rattle.term_numbers.specs.Numbering.{Terms, Numbering}
 use Rattle.term_numbers.specs.Order.{Numbered}

@@ -16,7 +16,7 @@ invariant_of-self-in_err-places g c =
 pub returns-in_err-places-clause-err : goal.returns-in_err-places-clause-err
 returns-in_err-places-clause-err g c =
     let list = ap (triples_at c.see_triple.new.nodes.keys c.see_triple.new.predicates.keys) c.in_ok-reserve.ensures.keys
-      ∙ triples_at-nodes c.self.inside.were_more c.self.inside.nodes.keys c.see_triple.new.nodes.keys c.self.inside.predicates.keys c.see_triple.new.predicates.keys c.self.inside.places.keys c.in_err-places.ensures.adds c.in_err-places.ensures.stays c.self.invariant in
+    ∙ triples_at-nodes c.self.inside.were_more c.self.inside.nodes.keys c.see_triple.new.nodes.keys c.self.inside.predicates.keys c.see_triple.new.predicates.keys c.self.inside.places.keys c.in_err-places.ensures.adds c.in_err-places.ensures.stays c.self.invariant in
     given_OnErr c.from_residual-in_err-places.result (ap (λ l. kept_with c.self.inside.limit l c.self.inside.were_more) list ∙ c.self.view_is)
 
 pub invariant_of-self-then-len-self : goal.invariant_of-self-then-len-self
