@@ -1,0 +1,4 @@
+pub mod Sets
+pub mod Walks
+pub mod Places
+pub mod Opened
