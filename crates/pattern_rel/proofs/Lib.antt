@@ -5,3 +5,5 @@ pub mod PlaceLaws
 pub mod FoldLaws
 pub mod PairLaws
 pub mod MaskLaws
+pub mod UnfoldLaws
+pub mod LeftLaws

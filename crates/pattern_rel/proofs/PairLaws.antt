@@ -15,6 +15,10 @@ use Rattle.pattern_rel.specs.steps.Sets.{IsBeside}
 use Rattle.pattern_rel.proofs.LineLaws.{row_of-here, row_of-other, row_of-below}
 use Rattle.pattern_rel.proofs.ShapeLaws.{not_in_none}
 
+-- one equivalence after another
+pub iff_then : {A B C : Type 0} → A ↔ B → B ↔ C → A ↔ C
+iff_then first second = (λ h. second.0 (first.0 h), λ h. first.1 (second.1 h))
+
 -- ---- membership
 
 module _ {X : Type 0} where
@@ -126,26 +130,23 @@ turned_left rows columns firsts seconds ls ms ascend turned c =
 -- ---- they ascend
 
 -- the first of the pairs, if there is one, has a first number past n
-BeginPast : ℕ → List (ℕ × ℕ) → Type 0
+abbrev pub BeginPast : ℕ → List (ℕ × ℕ) → Type 0
 BeginPast n [] = Unit {0}
 BeginPast n (q ∷ qs) = n < q.0
 
 comes_first : (n x : ℕ) (ps : List (ℕ × ℕ)) → BeginPast n ps → ComesFirst (n, x) ps
-unfolding BeginPast
 comes_first n x [] past = tt
 comes_first n x (q ∷ qs) past = inl past
 
 begin_past_line : (n m : ℕ) (xs : List ℕ) (ps : List (ℕ × ℕ)) → n < m → 0 < length xs → BeginPast n (map {B = ℕ × ℕ} (λ c. (m, c)) xs ++ ps)
-unfolding BeginPast
 begin_past_line n m [] ps past some = absurd (omega arith)
 begin_past_line n m (x ∷ xs) ps past some = past
 
 begin_past : (n low rows columns : ℕ) (ls : List Line) → n < low → LinesAscend low rows columns ls → BeginPast n (pairs_of ls)
-unfolding BeginPast
 begin_past n low rows columns [] past ascend = tt
 begin_past n low rows columns (l ∷ ls) past ascend = begin_past_line n l.row l.columns (pairs_of ls) (omega (arith, ascend.0)) ascend.2.some
 
-ascend_line : (n low rows columns : ℕ) (xs : List ℕ) (ps : List (ℕ × ℕ)) → n < rows → AscendsWithin low columns xs → BeginPast n ps → PairsAscend rows columns ps → PairsAscend rows columns (map {B = ℕ × ℕ} (λ c. (n, c)) xs ++ ps)
+pub ascend_line : (n low rows columns : ℕ) (xs : List ℕ) (ps : List (ℕ × ℕ)) → n < rows → AscendsWithin low columns xs → BeginPast n ps → PairsAscend rows columns ps → PairsAscend rows columns (map {B = ℕ × ℕ} (λ c. (n, c)) xs ++ ps)
 ascend_line n low rows columns [] ps row ascends past pairs = pairs
 ascend_line n low rows columns (x ∷ []) ps row ascends past pairs = (row, ascends.1, comes_first n x ps past, pairs)
 ascend_line n low rows columns (x ∷ y ∷ ys) ps row ascends past pairs =
@@ -164,7 +165,7 @@ before_then p q r first second =
     ]
 
 -- a pair comes before those behind the next one
-skip_second : (rows columns : ℕ) (p q : ℕ × ℕ) (qs : List (ℕ × ℕ)) → PairsAscend rows columns (p ∷ q ∷ qs) → PairsAscend rows columns (p ∷ qs)
+pub skip_second : (rows columns : ℕ) (p q : ℕ × ℕ) (qs : List (ℕ × ℕ)) → PairsAscend rows columns (p ∷ q ∷ qs) → PairsAscend rows columns (p ∷ qs)
 skip_second rows columns p q [] ascend = (ascend.0, ascend.1, tt, tt)
 skip_second rows columns p q (r ∷ rs) ascend = (ascend.0, ascend.1, before_then p q r ascend.2 ascend.3.2, ascend.3.3)
 

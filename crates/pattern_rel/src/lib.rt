@@ -7,7 +7,10 @@
 #![tactic(auto)]
 
 mod bound;
+mod counts;
+mod cursor;
 mod folds;
+mod next;
 mod partners;
 mod pools;
 mod relation;
@@ -18,6 +21,7 @@ mod sides;
 mod walk;
 
 pub use bound::{Bound, Pair};
+pub use cursor::{PairsLeft, RowLeft};
 pub use relation::PatRel;
 pub use shape::Shape;
 pub use side::Side;

@@ -1,7 +1,9 @@
 //! What stands beside one number of a relation.
 
-ghost use Rattle.std.specs.Prelude.{◌≡◌, ◌↔◌, ◌⊎◌, ℕ, ◌*◌, ◌<◌, ◌≤◌, ◌^◌, length, Contains, IsTrue, IfSome};
+ghost use Rattle.std.specs.Prelude.{◌≡◌, ◌↔◌, ◌⊎◌, ℕ, ◌+◌, ◌-◌, ◌*◌, ◌<◌, ◌≤◌, ◌^◌, [], ◌∷◌, length, Contains, IsTrue, IfSome, IfNone};
 ghost use Rattle.row_lanes.specs.Words.{Has, Meets};
+ghost use Rattle.run_rows.specs.Row.{AscendsWithin};
+ghost use Rattle.pattern_rel.specs.steps.Walks.{those_from};
 ghost use Rattle.pattern_rel.specs.steps.Sets.{IsNextBoth, partner_numbers};
 
 use crate::sets::{first_in_row, one_from};
@@ -25,6 +27,17 @@ impl<'a> Partners<'a> {
             Partners::Nobody => false,
             Partners::One(number) => has(words, *number),
             Partners::Row(row) => meets_row(words, row),
+        }
+    }
+
+    /// Whether the number is one of them.
+    pub fn has(&self, n: u32) -> bool
+        ensures { IsTrue result ↔ Contains (partner_numbers self.now) n }
+    {
+        match self {
+            Partners::Nobody => false,
+            Partners::One(number) => *number == n,
+            Partners::Row(row) => row.test(n),
         }
     }
 
@@ -52,4 +65,16 @@ impl<'a> Partners<'a> {
             Partners::Row(row) => first_in_row(words, row, at),
         }
     }
+}
+
+/// The first of the partners that is in the set and not below `at`.
+pub fn first_of(partners: &Partners<'_>, words: &[u64], at: u32) -> Option<u32>
+    requires few { length words.now ≤ 2 ^ 25 }
+    requires ascend { AscendsWithin 0 (2 ^ 32 - 1) (partner_numbers partners.now) }
+    ensures none { IfNone result (those_from at words.now (partner_numbers partners.now) ≡ []) }
+    ensures first { IfSome result (λ c. those_from at words.now (partner_numbers partners.now) ≡ c ∷ those_from (c + 1) words.now (partner_numbers partners.now)) }
+    ensures up { IfSome result (λ c. at ≤ c) }
+    ensures within { IfSome result (λ c. c < 64 * length words.now) }
+{
+    partners.first_in(words, at)
 }

@@ -7,8 +7,12 @@ ghost use Rattle.mask_pool.specs.Region.{words_of};
 ghost use Rattle.cube_slices.specs.Pairs.{PairsAscend};
 ghost use Rattle.pattern_rel.specs.Shapes.{lines_of_shape, KnowsColumns, row_of};
 ghost use Rattle.pattern_rel.specs.Left.{pairs_left, own_of, other_of, IsAtSide};
+ghost use Rattle.pattern_rel.specs.Bounds.{comes_after};
 ghost use Rattle.pattern_rel.specs.Folds.{CanFold, IsBelow, IsUsable, Keeps, is_kept};
 
+use crate::bound::Pair;
+use crate::counts::count_left;
+use crate::cursor::PairsLeft;
 use crate::shape::Shape;
 use crate::side::Side;
 use crate::sides::{fold_across, fold_side, narrow};
@@ -41,7 +45,7 @@ impl<'a> PatRel<'a> {
     /// rows.
     pub fn new(shape: Shape<'a>, first: Mask, second: Mask) -> PatRel<'a>
         requires { KnowsColumns shape }
-        ensures { result ≡ record { lines = lines_of_shape shape; first = first; second = second } }
+        ensures { result ≡ record { lines = lines_of_shape shape.entry; first = first; second = second } }
     {
         PatRel {
             shape,
@@ -65,6 +69,39 @@ impl<'a> PatRel<'a> {
         ensures { PairsAscend (2 ^ 32 - 1) (2 ^ 32 - 1) (pairs_left pool.now self.now) }
     {
         self.shape.lines_ascend();
+    }
+
+    /// How many pairs are left, at most `2 ^ 23`.
+    pub fn count(&self, pool: &MaskPool) -> u32
+        requires first { IsUsable pool.now self.now.first }
+        requires second { IsUsable pool.now self.now.second }
+        requires few { length (pairs_left pool.now self.now) ≤ 2 ^ 23 }
+        ensures { result ≡ length (pairs_left pool.now self.now) }
+    {
+        count_left(&self.shape, pool.read(self.first), pool.read(self.second))
+    }
+
+    /// The pairs left, one after the other.
+    pub fn pairs<'s>(&'s self, pool: &'s MaskPool) -> PairsLeft<'s, 'a>
+        requires first { IsUsable pool.now self.now.first }
+        requires second { IsUsable pool.now self.now.second }
+        ensures { result ≡ pairs_left pool.now self.now }
+    {
+        PairsLeft::all(&self.shape, pool.read(self.first), pool.read(self.second))
+    }
+
+    /// The pairs left that come after `last`, one after the other.
+    pub fn pairs_after<'s>(&'s self, pool: &'s MaskPool, last: Pair) -> PairsLeft<'s, 'a>
+        requires first { IsUsable pool.now self.now.first }
+        requires second { IsUsable pool.now self.now.second }
+        ensures { result ≡ filter (comes_after (last.first, last.second)) (pairs_left pool.now self.now) }
+    {
+        PairsLeft::after(
+            &self.shape,
+            pool.read(self.first),
+            pool.read(self.second),
+            last,
+        )
     }
 
     /// Makes `into` the numbers at a side of the pairs left. It changes `into` alone.
