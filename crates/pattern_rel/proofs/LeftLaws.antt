@@ -27,7 +27,7 @@ use Rattle.pattern_rel.proofs.PairLaws.{none_there, Contains-front, Contains-fil
 -- ---- lists of pairs that ascend
 
 -- each pair behind the first comes after it
-behind_first : (rows columns : ℕ) (p : ℕ × ℕ) (ps : List (ℕ × ℕ)) (q : ℕ × ℕ) → PairsAscend rows columns (p ∷ ps) → Contains ps q → ComesBefore p q
+pub behind_first : (rows columns : ℕ) (p : ℕ × ℕ) (ps : List (ℕ × ℕ)) (q : ℕ × ℕ) → PairsAscend rows columns (p ∷ ps) → Contains ps q → ComesBefore p q
 behind_first rows columns p [] q ascend there = absurd (none_there q there)
 behind_first rows columns p (r ∷ rs) q ascend there =
     elim ((Contains-front {X = ℕ × ℕ} r rs q).0 there) [
@@ -85,7 +85,7 @@ comes_after-is a p =
 
 -- ---- members
 
-Contains-beside : (m : ℕ) (xs : List ℕ) (n c : ℕ) → Contains (beside m xs) (n, c) ↔ ((n ≡ m) × Contains xs c)
+pub Contains-beside : (m : ℕ) (xs : List ℕ) (n c : ℕ) → Contains (beside m xs) (n, c) ↔ ((n ≡ m) × Contains xs c)
 Contains-beside m xs n c = Contains-line (record { row = m; columns = xs }) n c
 
 Contains-from : (at : ℕ) (words xs : List ℕ) (c : ℕ) → Contains (those_from at words xs) c ↔ ((at ≤ c) × Has words c × Contains xs c)
@@ -176,7 +176,7 @@ none_from at words xs none =
 pub those_all : (words xs : List ℕ) → those_from 0 words xs ≡ those_in words xs
 those_all words xs = filter_agree (λ n. nat_le 0 n && is_in words n) (is_in words) (λ n. rw (le-leb 0 n (omega arith)) refl) xs
 
-ascends_filter : (low columns : ℕ) (test : ℕ → Bool) (xs : List ℕ) → AscendsWithin low columns xs → AscendsWithin low columns (filter test xs)
+pub ascends_filter : (low columns : ℕ) (test : ℕ → Bool) (xs : List ℕ) → AscendsWithin low columns xs → AscendsWithin low columns (filter test xs)
 ascends_filter low columns test [] ascends = tt
 ascends_filter low columns test (x ∷ xs) ascends =
     let rest = ascends_filter (x + 1) columns test xs ascends.2 in
@@ -191,13 +191,13 @@ begin_past_of : (n : ℕ) (ps : List (ℕ × ℕ)) → ((m c : ℕ) → Contains
 begin_past_of n [] past = tt
 begin_past_of n (p ∷ ps) past = past p.0 p.1 ((Contains-front {X = ℕ × ℕ} p ps p).1 (inl refl))
 
-ascend_beside : (rows columns n : ℕ) (ys : List ℕ) (ps : List (ℕ × ℕ)) → AscendsWithin 0 columns ys → ((c : ℕ) → Contains ys c → (n < rows) × BeginPast n ps) → PairsAscend rows columns ps → PairsAscend rows columns (beside n ys ++ ps)
+pub ascend_beside : (rows columns n : ℕ) (ys : List ℕ) (ps : List (ℕ × ℕ)) → AscendsWithin 0 columns ys → ((c : ℕ) → Contains ys c → (n < rows) × BeginPast n ps) → PairsAscend rows columns ps → PairsAscend rows columns (beside n ys ++ ps)
 ascend_beside rows columns n [] ps ascends past pairs = pairs
 ascend_beside rows columns n (y ∷ ys) ps ascends past pairs =
     let there = past y ((Contains-cons y ys y).1 (inl refl)) in
     ascend_line n 0 rows columns (y ∷ ys) ps there.0 ascends there.1 pairs
 
-row_within : (n c low rows columns : ℕ) (ls : List Line) → LinesAscend low rows columns ls → Contains (row_of n ls) c → n < rows
+pub row_within : (n c low rows columns : ℕ) (ls : List Line) → LinesAscend low rows columns ls → Contains (row_of n ls) c → n < rows
 row_within n c low rows columns [] ascend there = absurd (not_in_none c there)
 row_within n c low rows columns (l ∷ ls) ascend there =
     elim (cases_eq l.row n) [

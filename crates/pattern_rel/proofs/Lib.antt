@@ -7,3 +7,4 @@ pub mod PairLaws
 pub mod MaskLaws
 pub mod UnfoldLaws
 pub mod LeftLaws
+pub mod NextLaws

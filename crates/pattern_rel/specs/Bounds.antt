@@ -1,5 +1,5 @@
 -- Which pair is asked for: numbers that it must have, and a pair that it must come after.
-use Rattle.std.specs.Prelude.{ℕ, ◌==◌, ◌&&◌, Option, Some, None, Bool, true, if◌then◌else◌, nat_lt}
+use Rattle.std.specs.Prelude.{ℕ, ◌==◌, ◌&&◌, List, map, filter, Option, Some, None, Bool, true, if◌then◌else◌, nat_lt}
 use Rattle.pattern_rel.specs.declared.bound.Bound.{Bound}
 use Rattle.pattern_rel.specs.declared.bound.Pair.{Pair}
 
@@ -27,3 +27,7 @@ is_wanted bound after p = agrees bound p && is_after after p
 -- the two numbers as a pair
 abbrev pub as_pair : ℕ × ℕ → Pair
 as_pair p = record { first = p.0; second = p.1 }
+
+-- the second numbers of the pairs with the first number n
+abbrev pub seconds_beside : ℕ → List (ℕ × ℕ) → List ℕ
+seconds_beside n ps = map (λ p. p.1) (filter (λ p. n == p.0) ps)

@@ -5,7 +5,7 @@ ghost use Rattle.std.specs.Iterator.{YieldsFirst, item_count};
 ghost use Rattle.run_rows.specs.Row.{AscendsWithin};
 ghost use Rattle.pattern_rel.specs.Shapes.{lines_of_shape};
 ghost use Rattle.pattern_rel.specs.Left.{left_in};
-ghost use Rattle.pattern_rel.specs.Bounds.{comes_after};
+ghost use Rattle.pattern_rel.specs.Bounds.{comes_after, is_after};
 ghost use Rattle.pattern_rel.specs.steps.Sets.{partner_numbers};
 ghost use Rattle.pattern_rel.specs.steps.Walks.{those_in, open_row};
 
@@ -103,6 +103,23 @@ impl<'s, 'a> PairsLeft<'s, 'a> {
             from: last.first.saturating_add(1),
             place: 0,
         }
+    }
+}
+
+/// The pairs left that come after the last one, or all.
+pub fn pairs_from<'s, 'a>(
+    shape: &'s Shape<'a>,
+    firsts: &'s [u64],
+    seconds: &'s [u64],
+    after: Option<Pair>,
+) -> PairsLeft<'s, 'a>
+    requires firsts_few { length firsts.now ≤ 2 ^ 25 }
+    requires seconds_few { length seconds.now ≤ 2 ^ 25 }
+    ensures { result ≡ filter (is_after after) (left_in firsts.now seconds.now (lines_of_shape shape.now)) }
+{
+    match after {
+        None => PairsLeft::all(shape, firsts, seconds),
+        Some(last) => PairsLeft::after(shape, firsts, seconds, last),
     }
 }
 

@@ -1,15 +1,17 @@
 //! The next pair left.
 
-ghost use Rattle.std.specs.Prelude.{◌≡◌, ℕ, ◌≤◌, ◌^◌, length, Some, None};
+ghost use Rattle.std.specs.Prelude.{◌≡◌, ◌≤◌, ◌^◌, length, find, Some, None};
+ghost use Rattle.std.specs.Option.{option_map};
+ghost use Rattle.pattern_rel.specs.Left.{left_in};
+ghost use Rattle.pattern_rel.specs.Bounds.{as_pair, is_after, is_wanted};
 ghost use Rattle.pattern_rel.specs.Shapes.{lines_of_shape, KnowsColumns};
 ghost use Rattle.pattern_rel.specs.steps.Sets.{IsNextBoth};
 ghost use Rattle.pattern_rel.specs.steps.Walks.{open_row};
 ghost use Rattle.pattern_rel.specs.steps.Finds.{IsFound, IsNextRow, StartsInColumn, StartsInRow};
 
 use crate::bound::{Bound, Pair};
-use crate::cursor::open;
+use crate::cursor::{open, pairs_from};
 use crate::shape::Shape;
-use crate::walk::open_next;
 use row_lanes::has;
 
 /// Where the pairs after the last one begin in row `n`.
@@ -43,8 +45,23 @@ fn next_beside(shape: &Shape<'_>, firsts: &[u64], seconds: &[u64], n: u32, at: u
     open(shape, firsts, n).first_in(seconds, at)
 }
 
+/// A pair with this first number, if there is a second one.
+fn in_row(first: u32, second: Option<u32>) -> Option<Pair>
+    ensures { result ≡ option_map (λ c. record { first = first; second = c }) second }
+{
+    let second = second?;
+    Some(Pair { first, second })
+}
+
+/// A pair with this second number, if there is a first one.
+fn in_column(first: Option<u32>, second: u32) -> Option<Pair>
+    ensures { result ≡ option_map (λ n. record { first = n; second = second }) first }
+{
+    let first = first?;
+    Some(Pair { first, second })
+}
+
 /// The next pair left.
-#[tactic(auto, using(crate::proofs::PlaceLaws::places))]
 fn next_pair(
     shape: &Shape<'_>,
     firsts: &[u64],
@@ -53,24 +70,11 @@ fn next_pair(
 ) -> Option<Pair>
     requires firsts_few { length firsts.now ≤ 2 ^ 25 }
     requires seconds_few { length seconds.now ≤ 2 ^ 25 }
-    ensures { IsFound None None after firsts.now seconds.now (lines_of_shape shape.now) result }
+    ensures { result ≡ option_map as_pair (find (is_after after) (left_in firsts.now seconds.now (lines_of_shape shape.now))) }
 {
-    let mut from = 0;
-    if let Some(last) = after {
-        let at = last.second.saturating_add(1);
-        if let Some(second) = next_beside(shape, firsts, seconds, last.first, at) {
-            return Some(Pair {
-                first: last.first,
-                second,
-            });
-        }
-        from = last.first.saturating_add(1);
-    }
-    let opened = open_next(shape, firsts, seconds, 0, from)?;
-    Some(Pair {
-        first: opened.first,
-        second: opened.second,
-    })
+    let mut pairs = pairs_from(shape, firsts, seconds, after);
+    let (first, second) = pairs.next()?;
+    Some(Pair { first, second })
 }
 
 /// The next pair left with the first number `n`.
@@ -86,8 +90,7 @@ fn next_in_row(
     ensures { IsFound (Some n) None after firsts.now seconds.now (lines_of_shape shape.now) result }
 {
     let at = start_in_row(after, n);
-    let second = next_beside(shape, firsts, seconds, n, at)?;
-    Some(Pair { first: n, second })
+    in_row(n, next_beside(shape, firsts, seconds, n, at))
 }
 
 /// The one pair with these numbers, if it is left and comes after the last one.
@@ -156,8 +159,7 @@ fn next_in_column(
         return None;
     }
     let from = start_in_column(after, c);
-    let first = next_above(shape, firsts, c, from)?;
-    Some(Pair { first, second: c })
+    in_column(next_above(shape, firsts, c, from), c)
 }
 
 /// The next pair left that agrees with what is bound.
@@ -171,8 +173,9 @@ pub fn next_left(
     requires firsts_few { length firsts.now ≤ 2 ^ 25 }
     requires seconds_few { length seconds.now ≤ 2 ^ 25 }
     requires columns { KnowsColumns shape.now }
-    ensures { IsFound bound.first bound.second after firsts.now seconds.now (lines_of_shape shape.now) result }
+    ensures { result ≡ option_map as_pair (find (is_wanted bound after) (left_in firsts.now seconds.now (lines_of_shape shape.now))) }
 {
+    shape.lines_ascend();
     match (bound.first, bound.second) {
         (None, None) => next_pair(shape, firsts, seconds, after),
         (Some(first), None) => next_in_row(shape, firsts, seconds, first, after),

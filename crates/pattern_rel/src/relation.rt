@@ -1,18 +1,20 @@
 //! A relation: a borrowed shape, and a mask for each side.
 
 ghost use Rattle.std.specs.Prelude.{◌≡◌, ◌↔◌, ℕ, ◌-◌, ◌≤◌, ◌^◌, length, filter, find, Some, None};
+ghost use Rattle.std.specs.Option.{option_map};
 ghost use Rattle.row_lanes.specs.Words.{Has};
 ghost use Rattle.mask_pool.specs.Mask.{words_for, DoNotOverlap};
 ghost use Rattle.mask_pool.specs.Region.{words_of};
 ghost use Rattle.cube_slices.specs.Pairs.{PairsAscend};
 ghost use Rattle.pattern_rel.specs.Shapes.{lines_of_shape, KnowsColumns, row_of};
 ghost use Rattle.pattern_rel.specs.Left.{pairs_left, own_of, other_of, IsAtSide};
-ghost use Rattle.pattern_rel.specs.Bounds.{comes_after};
+ghost use Rattle.pattern_rel.specs.Bounds.{as_pair, comes_after, is_wanted, seconds_beside};
 ghost use Rattle.pattern_rel.specs.Folds.{CanFold, IsBelow, IsUsable, Keeps, is_kept};
 
-use crate::bound::Pair;
+use crate::bound::{Bound, Pair};
 use crate::counts::count_left;
-use crate::cursor::PairsLeft;
+use crate::cursor::{PairsLeft, RowLeft};
+use crate::next::next_left;
 use crate::shape::Shape;
 use crate::side::Side;
 use crate::sides::{fold_across, fold_side, narrow};
@@ -79,6 +81,33 @@ impl<'a> PatRel<'a> {
         ensures { result ≡ length (pairs_left pool.now self.now) }
     {
         count_left(&self.shape, pool.read(self.first), pool.read(self.second))
+    }
+
+    /// The least pair left that comes after `after`, where it is given, and agrees with `bound`. `None` exactly where there
+    /// is none. The pairs left ascend, so it is the first that is wanted.
+    pub fn next(&self, pool: &MaskPool, bound: Bound, after: Option<Pair>) -> Option<Pair>
+        requires first { IsUsable pool.now self.now.first }
+        requires second { IsUsable pool.now self.now.second }
+        ensures { result ≡ option_map as_pair (find (is_wanted bound after) (pairs_left pool.now self.now)) }
+    {
+        next_left(
+            &self.shape,
+            pool.read(self.first),
+            pool.read(self.second),
+            bound,
+            after,
+        )
+    }
+
+    /// The numbers left beside `n` on the other side, one after the other: those of the pairs left with the first number
+    /// `n`.
+    pub fn beside<'s>(&'s self, pool: &'s MaskPool, n: u32) -> RowLeft<'s, 'a>
+        requires first { IsUsable pool.now self.now.first }
+        requires second { IsUsable pool.now self.now.second }
+        ensures { result ≡ seconds_beside n (pairs_left pool.now self.now) }
+    {
+        self.shape.lines_ascend();
+        RowLeft::of(&self.shape, pool.read(self.first), pool.read(self.second), n)
     }
 
     /// The pairs left, one after the other.
