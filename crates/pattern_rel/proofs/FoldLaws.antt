@@ -1,5 +1,5 @@
 -- Laws of the loops of a fold.
-use Rattle.std.proofs.Common.{◌≡◌, ◌≢◌, ◌↔◌, ◌⊎◌, ℕ, ◌+◌, ◌*◌, ◌<◌, ◌≤◌, List, [], length, Some, None, refl, sym, ◌∙◌, subst, inl, inr, arith}
+use Rattle.std.proofs.Common.{◌≡◌, ◌↔◌, ◌⊎◌, ℕ, ◌+◌, ◌*◌, ◌<◌, ◌≤◌, List, length, Some, None, sym, ◌∙◌, subst, inl, inr, arith}
 use Rattle.std.proofs.lemmas.Bool.{cases_lt, cases_eq}
 use Rattle.std.specs.List.{Contains}
 use Rattle.row_lanes.specs.Words.{Has, Meets}
@@ -27,12 +27,14 @@ IsRetaining-next from n ls seconds first words new next kept retaining = record 
     | inr later ↦
         let at = retaining.left m later in
         elim (cases_eq m n) [
-          | inl same ↦
-              (λ h. (let k = (kept m).0 h in (at.0 k.0, subst (λ (i : ℕ). Meets seconds (row_of i ls)) (sym same) (k.1 same))),
-              λ h. (kept m).1 (at.1 h.0, λ is. subst (λ (i : ℕ). Meets seconds (row_of i ls)) same h.1))
-          | inr apart ↦
-              (λ h. absurd (let le = next.2 m ((kept m).0 h).0 later in omega arith),
-              λ h. absurd (let le = next.2 m (at.1 h.0) later in omega arith))
+          | inl same ↦ (
+            λ h. (let k = (kept m).0 h in (at.0 k.0, subst (λ (i : ℕ). Meets seconds (row_of i ls)) (sym same) (k.1 same))),
+            λ h. (kept m).1 (at.1 h.0, λ is. subst (λ (i : ℕ). Meets seconds (row_of i ls)) same h.1),
+          )
+          | inr apart ↦ (
+            λ h. absurd (let le = next.2 m ((kept m).0 h).0 later in omega arith),
+            λ h. absurd (let le = next.2 m (at.1 h.0) later in omega arith),
+          )
         ]
   ];
   left = λ m le.
@@ -70,24 +72,24 @@ IsGathering-next room from n ls firsts first words new xs found row size added g
     record {
       size = size ∙ room-is;
       same = λ c. (
-          λ h. elim ((added c).0 h) [
-            | inl had ↦ elim ((gathering.same c).0 had) [
-              | inl at_first ↦ inl at_first
-              | inr ((m, lt, has, there), within) ↦ inr ((m, omega arith, has, there), within)
+        λ h. elim ((added c).0 h) [
+          | inl had ↦ elim ((gathering.same c).0 had) [
+            | inl at_first ↦ inl at_first
+            | inr ((m, lt, has, there), within) ↦ inr ((m, omega arith, has, there), within)
+          ]
+          | inr (there, within) ↦ inr ((n, omega arith, found.1, subst (λ (ys : List ℕ). Contains ys c) row there), omega arith)
+        ],
+        λ h. (added c).1 (elim h [
+          | inl at_first ↦ inl ((gathering.same c).1 (inl at_first))
+          | inr ((m, lt, has, there), within) ↦ elim (cases_lt m from) [
+            | inl before ↦ inl ((gathering.same c).1 (inr ((m, before, has, there), within)))
+            | inr later ↦ elim (cases_eq m n) [
+              | inl same ↦ inr (subst (λ (ys : List ℕ). Contains ys c) (sym row) (subst (λ (i : ℕ). Contains (row_of i ls) c) same there), omega arith)
+              | inr apart ↦ absurd (not_in_none c (subst (λ (ys : List ℕ). Contains ys c) (found.2 m has later (omega arith)) there))
             ]
-            | inr (there, within) ↦ inr ((n, omega arith, found.1, subst (λ (ys : List ℕ). Contains ys c) row there), omega arith)
-          ],
-          λ h. (added c).1 (elim h [
-            | inl at_first ↦ inl ((gathering.same c).1 (inl at_first))
-            | inr ((m, lt, has, there), within) ↦ elim (cases_lt m from) [
-              | inl before ↦ inl ((gathering.same c).1 (inr ((m, before, has, there), within)))
-              | inr later ↦ elim (cases_eq m n) [
-                | inl same ↦ inr (subst (λ (ys : List ℕ). Contains ys c) (sym row) (subst (λ (i : ℕ). Contains (row_of i ls) c) same there), omega arith)
-                | inr apart ↦ absurd (not_in_none c (subst (λ (ys : List ℕ). Contains ys c) (found.2 m has later (omega arith)) there))
-              ]
-            ]
-          ]),
-        );
+          ]
+        ]),
+      );
     }
 
 pub IsGathering-end : (room from : ℕ) (ls : List Line) (firsts first words : List ℕ) → IsCandidate from firsts ls None → IsGathering room from ls firsts first words → (c : ℕ) → Has words c ↔ (Has first c ⊎ (IsBeside firsts ls c × (c < 64 * room)))

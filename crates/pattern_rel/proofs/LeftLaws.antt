@@ -1,6 +1,6 @@
 -- Laws of the pairs left, as lists: they ascend, so their members determine them.
-use Rattle.std.proofs.Common.{◌≡◌, ◌≢◌, ◌↔◌, ◌⊎◌, ℕ, zero, suc, ◌+◌, ◌-◌, ◌*◌, ◌^◌, ◌<◌, ◌≤◌, ◌&&◌, min, List, [], ◌∷◌, ◌++◌, length, map, filter, Option, Some, None, IfSome, IfNone, Bool, true, false, cond, nat_le, refl, ap, sym, ◌∙◌, subst, inl, inr, arith, length-append}
-use Rattle.std.proofs.lemmas.Bool.{cases_eq, cases_lt, cases_Bool, both_ways, and_parts, and_from, and_left, le-leb, lt-leb, leb-true, ltb-true, lt-ltb, eq-eqb, ne_eqb}
+use Rattle.std.proofs.Common.{◌≡◌, ◌↔◌, ◌⊎◌, ℕ, ◌+◌, ◌-◌, ◌*◌, ◌^◌, ◌<◌, ◌≤◌, ◌&&◌, min, List, [], ◌∷◌, ◌++◌, length, filter, Option, Some, None, IfSome, IfNone, Bool, true, false, cond, nat_le, refl, ap, sym, ◌∙◌, subst, inl, inr, arith, length-append}
+use Rattle.std.proofs.lemmas.Bool.{cases_eq, cases_lt, cases_Bool, and_parts, and_from, and_left, le-leb, lt-leb, leb-true, ltb-true, lt-ltb, eq-eqb, ne_eqb}
 use Rattle.std.proofs.lemmas.List.{length-map}
 use Rattle.std.proofs.lemmas.List.Elements.{All-contains, Contains-append_left, Contains-append_right, Contains-append_cases, filter_agree}
 use Rattle.std.specs.List.{Contains}
@@ -8,8 +8,8 @@ use Rattle.run_rows.specs.Row.{AscendsWithin}
 use Rattle.run_rows.proofs.RowLaws.{AscendsWithin-lower, All-ascending}
 use Rattle.row_lanes.specs.Words.{Has, Meets}
 use Rattle.row_lanes.proofs.NumberLaws.{Contains-cons}
-use Rattle.cube_slices.specs.Lines.{Line, LinesAscend, pairs_of}
-use Rattle.cube_slices.specs.Pairs.{ComesBefore, ComesFirst, PairsAscend}
+use Rattle.cube_slices.specs.Lines.{Line, LinesAscend}
+use Rattle.cube_slices.specs.Pairs.{ComesBefore, PairsAscend}
 use Rattle.pattern_rel.specs.declared.walk.Opened.{Opened}
 use Rattle.pattern_rel.specs.Shapes.{row_of}
 use Rattle.pattern_rel.specs.Left.{is_in, left_in}
@@ -231,9 +231,9 @@ module _ (rows columns : ℕ) (firsts seconds : List ℕ) (ls : List Line) where
   ascend-open ascend row at from xs ascends within =
       ascend_beside rows columns row (those_from at seconds xs) (left_from from firsts seconds ls) (ascends_filter 0 columns (λ n. nat_le at n && is_in seconds n) xs ascends)
       (λ c there. (
-        let h = (Contains-from at seconds xs c).0 there in
-        let w = within c h.2 h.1 in
-        (w.0, begin_past_of row (left_from from firsts seconds ls) (λ m d left. (let l = (Contains-left_from rows columns firsts seconds ls ascend from m d).0 left in omega (arith, l.0, w.1))))))
+      let h = (Contains-from at seconds xs c).0 there in
+      let w = within c h.2 h.1 in
+      (w.0, begin_past_of row (left_from from firsts seconds ls) (λ m d left. (let l = (Contains-left_from rows columns firsts seconds ls ascend from m d).0 left in omega (arith, l.0, w.1))))))
       (ascend-from rows columns firsts seconds ls ascend from)
 
   -- no pair is left from a first number on
@@ -252,20 +252,20 @@ module _ (rows columns : ℕ) (firsts seconds : List ℕ) (ls : List Line) where
       (ascend-from rows columns firsts seconds ls ascend from)
       (ascend-open ascend n 0 (n + 1) (row_of n ls) (row_of-ascends n 0 rows columns ls ascend) (λ c there met. (row_within n c 0 rows columns ls ascend there, omega arith)))
       (λ p. (
-        let before = Contains-left_from rows columns firsts seconds ls ascend from p.0 p.1 in
-        let after = Contains-open rows columns firsts seconds ls ascend n 0 (row_of n ls) (n + 1) p.0 p.1 in (
-          λ h. after.1 (let l = before.0 h in elim (cases_lt p.0 n) [
-            | inl sooner ↦ absurd (none p.0 l.0 sooner l.1 (p.1, l.3, l.2))
-            | inr later ↦ elim (cases_eq p.0 n) [
-              | inl same ↦ inl (same, omega arith, l.2, subst (λ (m : ℕ). Contains (row_of m ls) p.1) same l.3)
-              | inr apart ↦ inr (omega arith, l.1, l.2, l.3)
-            ]
-          ]),
-          λ h. before.1 (elim (after.0 h) [
-            | inl here ↦ (omega (arith, here.0), subst (Has firsts) (sym here.0) has, here.2, subst (λ (m : ℕ). Contains (row_of m ls) p.1) (sym here.0) here.3)
-            | inr later ↦ (omega (arith, later.0), later.1, later.2, later.3)
-          ]),
-        )))
+      let before = Contains-left_from rows columns firsts seconds ls ascend from p.0 p.1 in
+      let after = Contains-open rows columns firsts seconds ls ascend n 0 (row_of n ls) (n + 1) p.0 p.1 in (
+        λ h. after.1 (let l = before.0 h in elim (cases_lt p.0 n) [
+          | inl sooner ↦ absurd (none p.0 l.0 sooner l.1 (p.1, l.3, l.2))
+          | inr later ↦ elim (cases_eq p.0 n) [
+            | inl same ↦ inl (same, omega arith, l.2, subst (λ (m : ℕ). Contains (row_of m ls) p.1) same l.3)
+            | inr apart ↦ inr (omega arith, l.1, l.2, l.3)
+          ]
+        ]),
+        λ h. before.1 (elim (after.0 h) [
+          | inl here ↦ (omega (arith, here.0), subst (Has firsts) (sym here.0) has, here.2, subst (λ (m : ℕ). Contains (row_of m ls) p.1) (sym here.0) here.3)
+          | inr later ↦ (omega (arith, later.0), later.1, later.2, later.3)
+        ]),
+      )))
 
   pub left_opened : LinesAscend 0 rows columns ls → (from : ℕ) (slice : List Line) (o : Opened) → IsOpened from firsts seconds ls slice o → left_from from firsts seconds ls ≡ (o.first, o.second) ∷ open_left o.first (o.second + 1) (partner_numbers o.partners) (o.first + 1) firsts seconds ls
   left_opened ascend from slice o opened =
@@ -281,24 +281,24 @@ module _ (rows columns : ℕ) (firsts seconds : List ℕ) (ls : List Line) where
       (ascend-open ascend a at from (open_row firsts a ls) (open_ascends firsts a 0 rows columns ls ascend) (λ c there met. (let o = open_there firsts a c ls there in (row_within a c 0 rows columns ls ascend o.1, omega (arith, Has-within a firsts o.0)))))
       (PairsAscend-filter rows columns (comes_after (a, b)) (left_in firsts seconds ls) (PairsAscend-left rows columns firsts seconds ls ascend))
       (λ p. (
-        let opened = Contains-open rows columns firsts seconds ls ascend a at (open_row firsts a ls) from p.0 p.1 in
-        let kept = Contains-filter (comes_after (a, b)) (left_in firsts seconds ls) p in
-        let left = Contains-left rows columns firsts seconds ls p.0 p.1 ascend in
-        let after = comes_after-is (a, b) p in (
-          λ h. kept.1 (elim (opened.0 h) [
-            | inl here ↦ (
-                let o = open_there firsts a p.1 ls here.3 in
-                (left.1 (subst (Has firsts) (sym here.0) o.0, here.2, subst (λ (m : ℕ). Contains (row_of m ls) p.1) (sym here.0) o.1), after.1 (inr (sym here.0, omega (arith, here.1, Has-within p.1 seconds here.2)))))
-            | inr later ↦ (left.1 (later.1, later.2, later.3), after.1 (inl (omega (arith, later.0, Has-within p.0 firsts later.1))))
-          ]),
-          λ h. opened.1 (
+      let opened = Contains-open rows columns firsts seconds ls ascend a at (open_row firsts a ls) from p.0 p.1 in
+      let kept = Contains-filter (comes_after (a, b)) (left_in firsts seconds ls) p in
+      let left = Contains-left rows columns firsts seconds ls p.0 p.1 ascend in
+      let after = comes_after-is (a, b) p in (
+        λ h. kept.1 (elim (opened.0 h) [
+          | inl here ↦ (
+              let o = open_there firsts a p.1 ls here.3 in
+              (left.1 (subst (Has firsts) (sym here.0) o.0, here.2, subst (λ (m : ℕ). Contains (row_of m ls) p.1) (sym here.0) o.1), after.1 (inr (sym here.0, omega (arith, here.1, Has-within p.1 seconds here.2)))))
+          | inr later ↦ (left.1 (later.1, later.2, later.3), after.1 (inl (omega (arith, later.0, Has-within p.0 firsts later.1))))
+        ]),
+        λ h. opened.1 (
             let k = kept.0 h in
             let l = left.0 k.0 in
             elim (after.0 k.1) [
               | inl up ↦ inr (omega arith, l.0, l.1, l.2)
               | inr (same, less) ↦ inl (sym same, omega arith, l.1, subst (λ (xs : List ℕ). Contains xs p.1) (sym (open_has firsts a ls (subst (Has firsts) (sym same) l.0))) (subst (λ (m : ℕ). Contains (row_of m ls) p.1) (sym same) l.2))
             ]),
-        )))
+      )))
 
   pub left_all : left_from 0 firsts seconds ls ≡ left_in firsts seconds ls
   left_all = all (left_in firsts seconds ls)

@@ -1,5 +1,5 @@
 -- Laws of what stands beside a number in lines.
-use Rattle.std.proofs.Common.{◌≡◌, ◌≢◌, ℕ, ◌+◌, ◌<◌, ◌≤◌, List, [], ◌∷◌, length, Option, Some, None, ap, sym, ◌∙◌, inl, inr, arith, Bool, true, false, refl}
+use Rattle.std.proofs.Common.{◌≡◌, ◌≢◌, ℕ, ◌+◌, ◌<◌, List, [], ◌∷◌, length, ap, sym, ◌∙◌, inl, inr, arith, Bool, true, false, refl}
 use Rattle.std.proofs.lemmas.Bool.{cases_eq, cases_Bool}
 use Rattle.run_rows.specs.Row.{AscendsWithin}
 use Rattle.cube_slices.specs.Lines.{Line, LinesAscend}

@@ -1,10 +1,10 @@
 -- Laws of masks of a pool: what a step on one mask leaves of the others, and what steps make of sets.
-use Rattle.std.proofs.Common.{◌≡◌, ◌↔◌, ◌⊎◌, ℕ, ◌*◌, ◌<◌, ◌≤◌, List, [], ◌∷◌, length, Option, Some, None, IfSome, IfNone, is_some, Bool, true, false, ◌∙◌, refl, sym, inl, inr, subst, arith}
+use Rattle.std.proofs.Common.{◌≡◌, ◌↔◌, ◌⊎◌, ℕ, ◌*◌, ◌<◌, ◌≤◌, List, [], Option, Some, None, IfSome, IfNone, is_some, true, false, ◌∙◌, refl, sym, inl, inr, subst, arith}
 use Rattle.std.proofs.lemmas.Bool.{both_ways}
 use Rattle.std.specs.List.{Contains}
 use Rattle.row_lanes.specs.Words.{Has, Meets}
 use Rattle.mask_pool.specs.Mask.{Stretch, words_for, DoNotOverlap}
-use Rattle.mask_pool.specs.Region.{Region, IsLive, words_of, Wrote}
+use Rattle.mask_pool.specs.Region.{Region, words_of}
 use Rattle.mask_pool.proofs.Loans.{length-words_of}
 use Rattle.cube_slices.specs.Lines.{Line, LinesAscend}
 use Rattle.cube_slices.specs.Folds.{IsRowKept}
@@ -15,7 +15,7 @@ use Rattle.pattern_rel.specs.declared.walk.Opened.{Opened}
 use Rattle.pattern_rel.specs.steps.Opened.{IsOpened}
 use Rattle.pattern_rel.proofs.SetLaws.{Has-within}
 use Rattle.pattern_rel.proofs.PairLaws.{Contains-pairs_of, Contains-front}
-use Rattle.pattern_rel.proofs.ShapeLaws.{not_in_none, row_of-row_none, row_of-row_has, row_zero, row_there}
+use Rattle.pattern_rel.proofs.ShapeLaws.{row_of-row_has, row_zero, row_there}
 
 -- ---- one step and the next
 

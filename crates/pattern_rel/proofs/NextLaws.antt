@@ -1,19 +1,18 @@
 -- Laws of the next pair left.
-use Rattle.std.proofs.Common.{◌≡◌, ◌≢◌, ◌↔◌, ℕ, ◌+◌, ◌-◌, ◌*◌, ◌^◌, ◌<◌, ◌≤◌, ◌&&◌, List, [], ◌∷◌, ◌++◌, length, map, filter, find, eqb, Option, Some, None, Bool, true, false, refl, ap, sym, ◌∙◌, subst, inl, inr, arith, eq-eqb, append-nil}
+use Rattle.std.proofs.Common.{◌≡◌, ◌↔◌, ℕ, ◌-◌, ◌^◌, ◌<◌, ◌≤◌, ◌&&◌, List, [], ◌∷◌, ◌++◌, length, map, filter, find, eqb, Option, Some, None, Bool, true, refl, ap, sym, ◌∙◌, subst, inl, inr, arith, eq-eqb, append-nil}
 use Rattle.std.proofs.lemmas.Bool.{cases_Bool, both_ways, and_parts, and_from, eqb-true}
 use Rattle.std.specs.Option.{option_map}
 use Rattle.std.specs.List.{Contains}
 use Rattle.row_lanes.specs.Words.{Has}
 use Rattle.cube_slices.specs.Lines.{Line, LinesAscend}
 use Rattle.cube_slices.specs.Pairs.{ComesBefore, PairsAscend}
-use Rattle.pattern_rel.specs.declared.bound.Bound.{Bound}
 use Rattle.pattern_rel.specs.declared.bound.Pair.{Pair}
 use Rattle.pattern_rel.specs.Shapes.{row_of, AreTransposed}
 use Rattle.pattern_rel.specs.Left.{is_in, left_in}
 use Rattle.pattern_rel.specs.Bounds.{is_asked, is_after, is_wanted, as_pair, seconds_beside}
 use Rattle.pattern_rel.specs.steps.Sets.{IsNextBoth}
 use Rattle.pattern_rel.specs.steps.Walks.{those_in, beside, open_row}
-use Rattle.pattern_rel.specs.steps.Finds.{IsPairLeft, IsFound, StartsInRow, StartsInColumn, IsNextRow}
+use Rattle.pattern_rel.specs.steps.Finds.{IsFound, StartsInRow, StartsInColumn, IsNextRow}
 use Rattle.pattern_rel.proofs.SetLaws.{Has-within}
 use Rattle.pattern_rel.proofs.PairLaws.{none_there, Contains-front, Contains-filter, Contains-left, is_in-has, PairsAscend-left, PairsAscend-filter}
 use Rattle.pattern_rel.proofs.LeftLaws.{behind_first, open-there, open_ascends, ascend_beside, ascends_filter, row_within, same_pairs, Contains-beside}
@@ -62,13 +61,13 @@ found_in rows columns test (q ∷ qs) (Some p) ascend found =
         | inr later ↦ absurd (found.2 q.0 q.1 ((Contains-front {X = ℕ × ℕ} q qs q).1 (inl refl)) passes (behind_first rows columns q qs at ascend later))
       ])
       | inr fails ↦ rw fails (found_in rows columns test qs (Some p) ascend.3 (
-          elim ((Contains-front {X = ℕ × ℕ} q qs at).0 found.0) [
-            | inl same ↦ absurd (both_ways (test q) fails (ap test same ∙ found.1))
-            | inr later ↦ later
-          ],
-          found.1,
-          λ n c there. found.2 n c ((Contains-front {X = ℕ × ℕ} q qs (n, c)).1 (inr there)),
-        ))
+        elim ((Contains-front {X = ℕ × ℕ} q qs at).0 found.0) [
+          | inl same ↦ absurd (both_ways (test q) fails (ap test same ∙ found.1))
+          | inr later ↦ later
+        ],
+        found.1,
+        λ n c there. found.2 n c ((Contains-front {X = ℕ × ℕ} q qs (n, c)).1 (inr there)),
+      ))
     ]
 
 module _ (rows columns : ℕ) (firsts seconds : List ℕ) (ls : List Line) where
@@ -100,24 +99,24 @@ row_alone rows columns firsts seconds ls ascend n =
     let ascends = ascend_beside rows columns n ys [] (ascends_filter 0 columns (is_in seconds) (open_row firsts n ls) (open_ascends firsts n 0 rows columns ls ascend))
     (λ c there. (row_within n c 0 rows columns ls ascend ((open-there firsts n c ls).0 ((member c).0 there).0).1, tt)) tt in
     ap (map {B = ℕ} (λ (p : ℕ × ℕ). p.1)) (same_pairs rows columns (filter test (left_in firsts seconds ls)) (beside n ys)
-      (PairsAscend-filter rows columns test (left_in firsts seconds ls) (PairsAscend-left rows columns firsts seconds ls ascend))
-      (subst (PairsAscend rows columns) end ascends)
-      (λ p. (
-        let kept = Contains-filter test (left_in firsts seconds ls) p in
-        let left = Contains-left rows columns firsts seconds ls p.0 p.1 ascend in
-        let front = Contains-beside n ys p.0 p.1 in
-        let opened = open-there firsts n p.1 ls in (
-          λ h. (
-            let k = kept.0 h in
-            let l = left.0 k.0 in
-            let same : n ≡ p.0 = eqb-true n p.0 k.1 in
-            front.1 (sym same, (member p.1).1 (opened.1 (subst (Has firsts) (sym same) l.0, subst (λ (m : ℕ). Contains (row_of m ls) p.1) (sym same) l.2), (is_in-has seconds p.1).1 l.1))),
-          λ h. (
-            let f = front.0 h in
-            let m = (member p.1).0 f.1 in
-            let o = opened.0 m.0 in
-            kept.1 (left.1 (subst (Has firsts) (sym f.0) o.0, (is_in-has seconds p.1).0 m.1, subst (λ (k : ℕ). Contains (row_of k ls) p.1) (sym f.0) o.1), eq-eqb n p.0 (sym f.0))),
-        ))))
+    (PairsAscend-filter rows columns test (left_in firsts seconds ls) (PairsAscend-left rows columns firsts seconds ls ascend))
+    (subst (PairsAscend rows columns) end ascends)
+    (λ p. (
+    let kept = Contains-filter test (left_in firsts seconds ls) p in
+    let left = Contains-left rows columns firsts seconds ls p.0 p.1 ascend in
+    let front = Contains-beside n ys p.0 p.1 in
+    let opened = open-there firsts n p.1 ls in (
+      λ h. (
+          let k = kept.0 h in
+          let l = left.0 k.0 in
+          let same : n ≡ p.0 = eqb-true n p.0 k.1 in
+          front.1 (sym same, (member p.1).1 (opened.1 (subst (Has firsts) (sym same) l.0, subst (λ (m : ℕ). Contains (row_of m ls) p.1) (sym same) l.2), (is_in-has seconds p.1).1 l.1))),
+      λ h. (
+          let f = front.0 h in
+          let m = (member p.1).0 f.1 in
+          let o = opened.0 m.0 in
+          kept.1 (left.1 (subst (Has firsts) (sym f.0) o.0, (is_in-has seconds p.1).0 m.1, subst (λ (k : ℕ). Contains (row_of k ls) p.1) (sym f.0) o.1), eq-eqb n p.0 (sym f.0))),
+    ))))
     ∙ seconds_of n ys
 
 -- ---- in a row
@@ -149,13 +148,13 @@ module _ (firsts seconds : List ℕ) (ls : List Line) where
         record { first = there.0; second = next.1; there = there.1 },
         and_from (is_asked (Some n) n && is_asked None d) (is_after after (n, d)) (and_from (is_asked (Some n) n) (is_asked None d) (eq-eqb n n refl) refl) ((starts d small).1 next.0),
         λ m c left wanted before. (
-          let w = wanted_first n after m c wanted in
-          let here : is_after after (n, c) ≡ true = subst (λ (k : ℕ). is_after after (k, c) ≡ true) (sym w.0) w.1 in
-          let c_small : c < 2 ^ 32 - 1 = omega (arith, Has-within c seconds left.second) in
-          let from = (starts c c_small).0 here in
-          let inside = (open-there firsts n c ls).1 (subst (Has firsts) (sym w.0) left.first, subst (λ (k : ℕ). Contains (row_of k ls) c) (sym w.0) left.there) in
-          let le = next.3 c left.second inside from in
-          elim before [ inl up ↦ omega (arith, w.0) | inr (same, less) ↦ omega arith ]),
+            let w = wanted_first n after m c wanted in
+            let here : is_after after (n, c) ≡ true = subst (λ (k : ℕ). is_after after (k, c) ≡ true) (sym w.0) w.1 in
+            let c_small : c < 2 ^ 32 - 1 = omega (arith, Has-within c seconds left.second) in
+            let from = (starts c c_small).0 here in
+            let inside = (open-there firsts n c ls).1 (subst (Has firsts) (sym w.0) left.first, subst (λ (k : ℕ). Contains (row_of k ls) c) (sym w.0) left.there) in
+            let le = next.3 c left.second inside from in
+            elim before [ inl up ↦ omega (arith, w.0) | inr (same, less) ↦ omega arith ]),
       )
 
   -- ---- in a column
@@ -173,12 +172,12 @@ module _ (firsts seconds : List ℕ) (ls : List Line) where
         record { first = next.1; second = met; there = next.2 },
         and_from (is_asked None n && is_asked (Some c) c) (is_after after (n, c)) (and_from (is_asked None n) (is_asked (Some c) c) refl (eq-eqb c c refl)) ((starts n small).1 next.0),
         λ m d left wanted before. (
-          let w = wanted_second c after m d wanted in
-          let here : is_after after (m, c) ≡ true = subst (λ (k : ℕ). is_after after (m, k) ≡ true) (sym w.0) w.1 in
-          let m_small : m < 2 ^ 32 - 1 = omega (arith, Has-within m firsts left.first) in
-          let up = (starts m m_small).0 here in
-          let le = next.3 m left.first (subst (Contains (row_of m ls)) (sym w.0) left.there) up in
-          elim before [ inl sooner ↦ omega arith | inr (same, less) ↦ omega (arith, w.0) ]),
+            let w = wanted_second c after m d wanted in
+            let here : is_after after (m, c) ≡ true = subst (λ (k : ℕ). is_after after (m, k) ≡ true) (sym w.0) w.1 in
+            let m_small : m < 2 ^ 32 - 1 = omega (arith, Has-within m firsts left.first) in
+            let up = (starts m m_small).0 here in
+            let le = next.3 m left.first (subst (Contains (row_of m ls)) (sym w.0) left.there) up in
+            elim before [ inl sooner ↦ omega arith | inr (same, less) ↦ omega (arith, w.0) ]),
       )
 
 -- by the transpose

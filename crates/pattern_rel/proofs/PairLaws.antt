@@ -1,5 +1,5 @@
 -- Laws of the pairs of lines, and of those that two sets leave.
-use Rattle.std.proofs.Common.{◌≡◌, ◌≢◌, ◌↔◌, ◌⊎◌, ℕ, zero, suc, ◌+◌, ◌<◌, ◌≤◌, ◌&&◌, List, [], ◌∷◌, ◌++◌, length, get_or, map, filter, Bool, true, false, refl, ap, sym, ◌∙◌, subst, inl, inr, arith, eq-eqb}
+use Rattle.std.proofs.Common.{◌≡◌, ◌↔◌, ◌⊎◌, ℕ, zero, suc, ◌+◌, ◌<◌, ◌&&◌, List, [], ◌∷◌, ◌++◌, length, get_or, map, filter, Bool, true, refl, ap, sym, ◌∙◌, subst, inl, inr, arith, eq-eqb}
 use Rattle.std.proofs.lemmas.Bool.{cases_eq, cases_Bool, both_ways, and_parts, and_from, eqb-true}
 use Rattle.std.proofs.lemmas.List.{length-map, get_or-map}
 use Rattle.std.proofs.lemmas.List.Elements.{Contains-append_left, Contains-append_right, Contains-append_cases}
@@ -41,11 +41,13 @@ module _ {X : Type 0} where
       let kept = Contains-front x (filter test xs) y in
       elim (cases_Bool (test x)) [
         | inl passes ↦ rw passes (
-            λ h. elim (kept.0 h) [ inl same ↦ (whole.1 (inl same), ap test (sym same) ∙ passes) | inr later ↦ (let r = rest.0 later in (whole.1 (inr r.0), r.1)) ],
-            λ h. kept.1 (elim (whole.0 h.0) [ inl same ↦ inl same | inr later ↦ inr (rest.1 (later, h.1)) ]))
+          λ h. elim (kept.0 h) [ inl same ↦ (whole.1 (inl same), ap test (sym same) ∙ passes) | inr later ↦ (let r = rest.0 later in (whole.1 (inr r.0), r.1)) ],
+          λ h. kept.1 (elim (whole.0 h.0) [ inl same ↦ inl same | inr later ↦ inr (rest.1 (later, h.1)) ]),
+        )
         | inr fails ↦ rw fails (
-            λ h. (let r = rest.0 h in (whole.1 (inr r.0), r.1)),
-            λ h. elim (whole.0 h.0) [ inl same ↦ absurd (both_ways (test x) fails (ap test same ∙ h.1)) | inr later ↦ rest.1 (later, h.1) ])
+          λ h. (let r = rest.0 h in (whole.1 (inr r.0), r.1)),
+          λ h. elim (whole.0 h.0) [ inl same ↦ absurd (both_ways (test x) fails (ap test same ∙ h.1)) | inr later ↦ rest.1 (later, h.1) ],
+        )
       ]
 
   -- one filter does what two do
@@ -81,17 +83,19 @@ Contains-pairs_of low rows columns (l ∷ ls) n c ascend =
     let line = Contains-line l n c in
     elim (cases_eq l.row n) [
       | inl same ↦ rw (row_of-here n l ls same) (
-          λ h. elim (Contains-append_cases (pairs_of_line l) (pairs_of ls) (n, c) h) [
-            | inl front ↦ (line.0 front).1
-            | inr back ↦ absurd (not_in_none c (subst (λ (xs : List ℕ). Contains xs c) (row_of-below n (l.row + 1) rows columns ls (omega arith) ascend.3) (rest.0 back)))
-          ],
-          λ h. Contains-append_left (pairs_of_line l) (pairs_of ls) (n, c) (line.1 (sym same, h)))
+        λ h. elim (Contains-append_cases (pairs_of_line l) (pairs_of ls) (n, c) h) [
+          | inl front ↦ (line.0 front).1
+          | inr back ↦ absurd (not_in_none c (subst (λ (xs : List ℕ). Contains xs c) (row_of-below n (l.row + 1) rows columns ls (omega arith) ascend.3) (rest.0 back)))
+        ],
+        λ h. Contains-append_left (pairs_of_line l) (pairs_of ls) (n, c) (line.1 (sym same, h)),
+      )
       | inr apart ↦ rw (row_of-other n l ls apart) (
-          λ h. elim (Contains-append_cases (pairs_of_line l) (pairs_of ls) (n, c) h) [
-            | inl front ↦ absurd (apart (sym (line.0 front).0))
-            | inr back ↦ rest.0 back
-          ],
-          λ h. Contains-append_right (pairs_of_line l) (pairs_of ls) (n, c) (rest.1 h))
+        λ h. elim (Contains-append_cases (pairs_of_line l) (pairs_of ls) (n, c) h) [
+          | inl front ↦ absurd (apart (sym (line.0 front).0))
+          | inr back ↦ rest.0 back
+        ],
+        λ h. Contains-append_right (pairs_of_line l) (pairs_of ls) (n, c) (rest.1 h),
+      )
     ]
 
 -- ---- the pairs that are left

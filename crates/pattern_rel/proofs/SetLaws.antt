@@ -1,15 +1,14 @@
 -- Laws of sets of numbers.
-use Rattle.std.proofs.Common.{◌≡◌, ◌≢◌, ◌↔◌, ℕ, ◌+◌, ◌-◌, ◌*◌, ◌/◌, ◌%◌, ◌^◌, ◌<◌, ◌≤◌, List, [], ◌∷◌, length, get_or, slice_set as set, bit_and, Option, Some, None, IfSome, refl, ap, sym, ◌∙◌, inl, inr, arith, w64, get_or-set_other, get_or-set_same}
-use Rattle.std.proofs.lemmas.Bool.{cases_eq, cases_lt}
+use Rattle.std.proofs.Common.{◌≡◌, ◌≢◌, ◌↔◌, ℕ, ◌-◌, ◌*◌, ◌/◌, ◌%◌, ◌^◌, ◌<◌, ◌≤◌, List, length, get_or, slice_set as set, bit_and, Option, Some, None, IfSome, refl, ap, sym, ◌∙◌, inl, inr, arith, w64, get_or-set_other, get_or-set_same}
+use Rattle.std.proofs.lemmas.Bool.{cases_eq}
 use Rattle.std.proofs.lemmas.List.Elements.{All-contains}
 use Rattle.std.proofs.lemmas.Nat.Bits.{bit_at_clear_same, bit_at_clear_other}
 use Rattle.std.specs.Int.{bit_at}
-use Rattle.std.specs.List.{All, Contains}
 use Rattle.run_rows.specs.Row.{IsLeastFrom}
 use Rattle.row_lanes.specs.Words.{bit_of, Has, numbers_in}
 use Rattle.row_lanes.proofs.SetLaws.{Has-below_length}
 use Rattle.row_lanes.proofs.NumberLaws.{Contains-numbers_in}
-use Rattle.pattern_rel.specs.steps.Sets.{IsNext, IsNextBoth}
+use Rattle.pattern_rel.specs.steps.Sets.{IsNext}
 
 -- ---- the least number
 

@@ -1,13 +1,12 @@
 -- Laws of shapes: that their lines ascend, and what stands beside a number.
-use Rattle.std.proofs.Common.{◌≡◌, ◌≢◌, ◌↔◌, ℕ, ◌+◌, ◌-◌, ◌^◌, ◌<◌, ◌≤◌, ◌&&◌, List, [], ◌∷◌, length, drop, Option, Some, None, IsTrue, MatchOption, IfSome, if◌then◌else◌, Bool, true, false, nat_lt, refl, ap, sym, ◌∙◌, subst, inl, inr, arith, lt-ltb, le-ltb, eq-eqb}
+use Rattle.std.proofs.Common.{◌≡◌, ◌≢◌, ◌↔◌, ℕ, ◌+◌, ◌-◌, ◌^◌, ◌<◌, ◌≤◌, ◌&&◌, List, [], ◌∷◌, length, drop, Option, Some, None, IsTrue, MatchOption, IfSome, if◌then◌else◌, Bool, true, false, nat_lt, refl, ap, sym, ◌∙◌, subst, inl, inr, arith, lt-ltb, eq-eqb}
 use Rattle.std.proofs.lemmas.Bool.{cases_eq, cases_lt, cases_Bool, ne_eqb, both_ways, ltb-true, and_parts, and_from}
 use Rattle.std.specs.List.{Contains}
-use Rattle.run_rows.specs.Row.{AscendsWithin, IsRow}
-use Rattle.row_lanes.specs.Words.{Has, Meets}
+use Rattle.run_rows.specs.Row.{AscendsWithin}
 use Rattle.row_lanes.proofs.NumberLaws.{Contains-cons}
-use Rattle.cube_slices.specs.Lines.{Line, LinesAscend, line_of, IsPassed}
+use Rattle.cube_slices.specs.Lines.{Line, LinesAscend}
 use Rattle.cube_slices.proofs.LineLaws.{LinesAscend-drop}
-use Rattle.pattern_rel.specs.Shapes.{lines_of_shape, KnowsColumns, lists, lines_that, row_lines, column_lines, diagonal_lines, numbers_or_none, row_of, AreTransposed}
+use Rattle.pattern_rel.specs.Shapes.{lines_of_shape, KnowsColumns, lists, row_lines, column_lines, diagonal_lines, numbers_or_none, row_of, AreTransposed}
 use Rattle.pattern_rel.specs.declared.shape.Shape.{Shape}
 use Rattle.pattern_rel.specs.declared.shape.Shape.TheVariants.{Pairs}
 use Rattle.pattern_rel.specs.steps.Sets.{IsNext, IsNextBoth, IsCandidate}
@@ -133,15 +132,15 @@ pub beside_itself : (shared n : ℕ) (ls : List Line) (b : Bool) → LinesAscend
 beside_itself shared n ls true ascend is =
     let has = is.0 refl in
     sym (row_of-that_passes (λ l. nat_lt l.row shared && lists l.columns l.row) (λ l. l.row) n 0 (2 ^ 32 - 1) (2 ^ 32 - 1) (record { row = n; columns = row_of n ls }) ls ascend refl refl
-      (some_in (row_of n ls) n has.1) (and_from (nat_lt n shared) (lists (row_of n ls) n) (lt-ltb n shared has.0) (lists-contains (row_of n ls) n has.1)))
+    (some_in (row_of n ls) n has.1) (and_from (nat_lt n shared) (lists (row_of n ls) n) (lt-ltb n shared has.0) (lists-contains (row_of n ls) n has.1)))
 beside_itself shared n ls false ascend is =
     sym (row_of-that_fails (λ l. nat_lt l.row shared && lists l.columns l.row) (λ l. l.row) n 0 (2 ^ 32 - 1) (2 ^ 32 - 1) (record { row = n; columns = row_of n ls }) ls ascend refl refl
-      (elim (cases_Bool (nat_lt n shared && lists (row_of n ls) n)) [
-        | inl passes ↦
-            let both = and_parts (nat_lt n shared) (lists (row_of n ls) n) passes in
-            absurd (both_ways false refl (is.1 (ltb-true n shared both.0, lists-true (row_of n ls) n both.1)))
-        | inr fails ↦ fails
-      ]))
+    (elim (cases_Bool (nat_lt n shared && lists (row_of n ls) n)) [
+      | inl passes ↦
+          let both = and_parts (nat_lt n shared) (lists (row_of n ls) n) passes in
+          absurd (both_ways false refl (is.1 (ltb-true n shared both.0, lists-true (row_of n ls) n both.1)))
+      | inr fails ↦ fails
+    ]))
 
 -- the diagonal is its own transpose: what stands beside a number is that number
 row_of-diagonal : (shared n c : ℕ) (ls : List Line) → Contains (row_of n (diagonal_lines shared ls)) c → c ≡ n
@@ -187,9 +186,12 @@ passed_row n from place l ls after ascend known at up before =
 pub IsCandidate-next : (from n : ℕ) (words : List ℕ) (ls : List Line) (o : Option ℕ) → ((m : ℕ) → from ≤ m → m < n → row_of m ls ≡ []) → from ≤ n → IsNext n words o → IsCandidate from words ls o
 IsCandidate-next from n words ls None none up next = λ m has at.
     elim (cases_lt m n) [ inl before ↦ none m at before | inr later ↦ absurd (let lt = next m has in omega arith) ]
-IsCandidate-next from n words ls (Some x) none up next =
-    (omega (arith, next.0), next.1, λ m has at before.
-      elim (cases_lt m n) [ inl sooner ↦ none m at sooner | inr later ↦ absurd (let le = next.2 m has later in omega arith) ])
+IsCandidate-next from n words ls (Some x) none up next = (
+  omega (arith, next.0),
+  next.1,
+  λ m has at before.
+      elim (cases_lt m n) [ inl sooner ↦ none m at sooner | inr later ↦ absurd (let le = next.2 m has later in omega arith) ],
+)
 
 pub IsCandidate-column : (column from : ℕ) (words : List ℕ) (ls : List Line) (o : Option ℕ) → LinesAscend 0 (2 ^ 32 - 1) (2 ^ 32 - 1) ls → IsCandidate from words ls o → IsCandidate from words (column_lines column ls) o
 IsCandidate-column column from words ls None ascend found = λ m has at. row_of-that_none (λ l. lists l.columns column) (λ l. 0) m 0 (2 ^ 32 - 1) (2 ^ 32 - 1) ls ascend (found m has at)

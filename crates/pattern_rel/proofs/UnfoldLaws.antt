@@ -1,6 +1,6 @@
 -- Laws of unfolding: a mask that loses numbers drops the pairs that have them.
-use Rattle.std.proofs.Common.{◌≡◌, ◌↔◌, ℕ, ◌<◌, ◌&&◌, List, Option, Some, None, Bool, true, false, nat_lt, filter, refl, sym, ap, ◌∙◌, lt-ltb}
-use Rattle.std.proofs.lemmas.Bool.{cases_Bool, and_parts, and_from, ltb-true}
+use Rattle.std.proofs.Common.{◌≡◌, ◌↔◌, ℕ, ◌&&◌, List, Option, Some, None, Bool, true, false, filter, refl, sym, ap, ◌∙◌, lt-ltb}
+use Rattle.std.proofs.lemmas.Bool.{and_parts, and_from, ltb-true}
 use Rattle.row_lanes.specs.Words.{Has}
 use Rattle.cube_slices.specs.Lines.{Line, pairs_of}
 use Rattle.pattern_rel.specs.declared.side.Side.TheVariants.{First, Second}
@@ -43,12 +43,12 @@ module _ (old new by : List ℕ) (cut : Option ℕ) where
   narrowed : ((n : ℕ) → Has new n ↔ (Has old n × Has by n × IsBelow cut n)) → (n : ℕ) → is_in new n ≡ (is_in old n && (is_in by n && is_below cut n))
   narrowed kept n = same_test (is_in new n) (is_in old n && (is_in by n && is_below cut n))
       (λ passes. (
-        let k = (kept n).0 ((is_in-has new n).0 passes) in
-        and_from (is_in old n) (is_in by n && is_below cut n) ((is_in-has old n).1 k.0) (and_from (is_in by n) (is_below cut n) ((is_in-has by n).1 k.1) (below-true cut n k.2))))
+      let k = (kept n).0 ((is_in-has new n).0 passes) in
+      and_from (is_in old n) (is_in by n && is_below cut n) ((is_in-has old n).1 k.0) (and_from (is_in by n) (is_below cut n) ((is_in-has by n).1 k.1) (below-true cut n k.2))))
       (λ passes. (
-        let first = and_parts (is_in old n) (is_in by n && is_below cut n) passes in
-        let second = and_parts (is_in by n) (is_below cut n) first.1 in
-        (is_in-has new n).1 ((kept n).1 ((is_in-has old n).0 first.0, (is_in-has by n).0 second.0, true-below cut n second.1))))
+      let first = and_parts (is_in old n) (is_in by n && is_below cut n) passes in
+      let second = and_parts (is_in by n) (is_below cut n) first.1 in
+      (is_in-has new n).1 ((kept n).1 ((is_in-has old n).0 first.0, (is_in-has by n).0 second.0, true-below cut n second.1))))
 
   pub unfolded_first : (seconds : List ℕ) (ls : List Line) → ((n : ℕ) → Has new n ↔ (Has old n × Has by n × IsBelow cut n)) → left_in new seconds ls ≡ filter (is_kept First by cut) (left_in old seconds ls)
   unfolded_first seconds ls kept =

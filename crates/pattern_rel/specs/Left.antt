@@ -1,5 +1,5 @@
 -- The pairs that are left of a relation: those of its lines whose numbers are in its two masks.
-use Rattle.std.specs.Prelude.{◌≡◌, ℕ, ◌==◌, ◌&&◌, List, Bool, Contains, filter}
+use Rattle.std.specs.Prelude.{ℕ, ◌==◌, ◌&&◌, List, Bool, Contains, filter}
 use Rattle.row_lanes.specs.Words.{bit_of}
 use Rattle.mask_pool.specs.Mask.{Stretch}
 use Rattle.mask_pool.specs.Region.{Region, words_of}

@@ -2,4 +2,5 @@ pub mod Shapes
 pub mod Left
 pub mod Folds
 pub mod Bounds
+pub mod Prepared
 pub mod steps

@@ -1,5 +1,5 @@
 -- What a shape lists: lines, each a first number with the second numbers that stand beside it.
-use Rattle.std.specs.Prelude.{◌≡◌, ◌↔◌, ℕ, ◌==◌, ◌&&◌, List, [], ◌∷◌, Option, Some, None, Bool, true, false, if◌then◌else◌, nat_lt, Contains}
+use Rattle.std.specs.Prelude.{◌↔◌, ℕ, ◌==◌, ◌&&◌, List, [], ◌∷◌, Option, Some, None, Bool, true, false, if◌then◌else◌, nat_lt, Contains}
 use Rattle.cube_slices.specs.Lines.{Line, line_of}
 use Rattle.pattern_rel.specs.declared.shape.Shape.{Shape}
 use Rattle.pattern_rel.specs.declared.shape.Shape.TheVariants.{Nothing, Ground, OneRow, Column, Pairs, Diagonal}

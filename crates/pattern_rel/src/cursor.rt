@@ -135,13 +135,7 @@ impl<'s, 'a> Iterator for PairsLeft<'s, 'a> {
             self.at = second + 1;
             return Some((self.row, second));
         }
-        let opened = open_first(
-            self.shape,
-            self.firsts,
-            self.seconds,
-            self.place,
-            self.from,
-        )?;
+        let opened = open_first(self.shape, self.firsts, self.seconds, self.place, self.from)?;
         let first = opened.first;
         let second = opened.second;
         self.row = first;

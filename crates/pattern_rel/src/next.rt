@@ -109,7 +109,11 @@ fn this_pair(
         return None;
     }
     let second = next_beside(shape, firsts, seconds, pair.first, pair.second)?;
-    if second == pair.second { Some(pair) } else { None }
+    if second == pair.second {
+        Some(pair)
+    } else {
+        None
+    }
 }
 
 /// The least number from `from` on that has `c` beside it, row by row.

@@ -107,7 +107,12 @@ impl<'a> PatRel<'a> {
         ensures { result ≡ seconds_beside n (pairs_left pool.now self.now) }
     {
         self.shape.lines_ascend();
-        RowLeft::of(&self.shape, pool.read(self.first), pool.read(self.second), n)
+        RowLeft::of(
+            &self.shape,
+            pool.read(self.first),
+            pool.read(self.second),
+            n,
+        )
     }
 
     /// The pairs left, one after the other.

@@ -22,14 +22,20 @@ pub enum Shape<'a> {
     /// `(n, 0)` for each number `n` of the row.
     OneRow(RowRef<'a>),
     /// `(n, 0)` for each row `n` of the slice that has the column.
-    Column { slice: SliceRef<'a>, column: u32 },
+    Column {
+        slice: SliceRef<'a>,
+        column: u32,
+    },
     /// The pairs of `rows`. `columns`, where it is given, is the transpose.
     Pairs {
         rows: SliceRef<'a>,
         columns: Option<SliceRef<'a>>,
     },
     /// The pairs `(n, n)` of the slice with `n` below `shared`.
-    Diagonal { slice: SliceRef<'a>, shared: u32 },
+    Diagonal {
+        slice: SliceRef<'a>,
+        shared: u32,
+    },
 }
 
 /// One number, or nobody.

@@ -9,7 +9,8 @@ ghost use Rattle.pattern_rel.specs.Folds.{CanFold, IsBelow, IsUsable, Keeps};
 ghost use Rattle.pattern_rel.specs.steps.Sets.{IsBeside};
 
 use crate::pools::{
-    add_to_mask, and_mask, clear_mask, copy_mask, cut_mask, gather_mask, retain_mask, row_mask, rows_mask,
+    add_to_mask, and_mask, clear_mask, copy_mask, cut_mask, gather_mask, retain_mask, row_mask,
+    rows_mask,
 };
 use crate::shape::Shape;
 use crate::walk::open_next;

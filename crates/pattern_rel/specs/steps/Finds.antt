@@ -3,7 +3,6 @@ use Rattle.std.specs.Prelude.{◌≡◌, ◌↔◌, ℕ, ◌<◌, ◌≤◌, ◌
 use Rattle.row_lanes.specs.Words.{Has}
 use Rattle.cube_slices.specs.Lines.{Line}
 use Rattle.cube_slices.specs.Pairs.{ComesBefore}
-use Rattle.pattern_rel.specs.declared.bound.Bound.{Bound}
 use Rattle.pattern_rel.specs.declared.bound.Pair.{Pair}
 use Rattle.pattern_rel.specs.Shapes.{row_of}
 use Rattle.pattern_rel.specs.Bounds.{is_wanted, is_after}

@@ -1,5 +1,5 @@
 -- The pairs left, from some number on.
-use Rattle.std.specs.Prelude.{ℕ, ◌&&◌, List, [], ◌++◌, map, filter, Bool, if◌then◌else◌, nat_le}
+use Rattle.std.specs.Prelude.{ℕ, ◌&&◌, List, [], ◌++◌, map, filter, if◌then◌else◌, nat_le}
 use Rattle.cube_slices.specs.Lines.{Line}
 use Rattle.pattern_rel.specs.Left.{is_in, left_in}
 use Rattle.pattern_rel.specs.Shapes.{row_of}

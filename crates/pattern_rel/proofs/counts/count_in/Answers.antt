@@ -1,4 +1,4 @@
-use Rattle.std.proofs.Common.{arith, ap, length, ◌+◌}
+use Rattle.std.proofs.Common.{arith, ap, length}
 use Rattle.pattern_rel.specs.steps.Sets.{partner_numbers}
 use Rattle.pattern_rel.proofs.LeftLaws.{those_all}
 use Rattle.pattern_rel.proofs.counts.count_in.Goals as goal

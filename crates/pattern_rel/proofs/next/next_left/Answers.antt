@@ -1,5 +1,4 @@
-use Rattle.std.proofs.Common.{◌≡◌, ◌-◌, ◌^◌, Option, Some, None}
-use Rattle.pattern_rel.specs.declared.bound.Bound.{Bound}
+use Rattle.std.proofs.Common.{◌≡◌, ◌-◌, ◌^◌, Some, None}
 use Rattle.pattern_rel.specs.Shapes.{lines_of_shape}
 use Rattle.pattern_rel.proofs.NextLaws.{find_found}
 use Rattle.pattern_rel.proofs.next.next_left.Goals as goal

@@ -1,4 +1,4 @@
-use Rattle.std.proofs.Common.{◌≡◌, ℕ, ◌<◌, length, get_or}
+use Rattle.std.proofs.Common.{◌≡◌, ℕ, ◌<◌, get_or}
 use Rattle.pattern_rel.proofs.sets.assign.Given as goal
 
 abbrev pub invariant-loop-i : goal.invariant-loop-i

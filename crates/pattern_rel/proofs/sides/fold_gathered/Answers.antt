@@ -1,4 +1,4 @@
-use Rattle.pattern_rel.proofs.MaskLaws.{words_kept, within_room, kept_gathered, Keeps-then, IsUsable-kept}
+use Rattle.pattern_rel.proofs.MaskLaws.{words_kept, within_room, kept_gathered, Keeps-then}
 use Rattle.pattern_rel.proofs.sides.fold_gathered.Goals as goal
 
 pub returns-clause-folded : goal.returns-clause-folded

@@ -1,4 +1,3 @@
-use Rattle.std.proofs.Common.{rules}
 use Rattle.std.proofs.lemmas.Bool.{iff_false}
 use Rattle.pattern_rel.proofs.MaskLaws.{words_kept, within_room, row_met, kept_rows}
 use Rattle.pattern_rel.proofs.sides.fold_row.Goals as goal

@@ -23,6 +23,7 @@ returns-else-some-clause-folded c = λ n.
     let seconds = words_of c.args.pool.now c.args.second in
     let ls = lines_of_shape c.args.shape.now in
     let slice = walked c.args.shape.now in
-    let none = rw (c.read.ensures.words, c.read-2.ensures.words) at c.open_next.ensures.none in
-    (λ h. absurd (c.clear_mask.ensures.none n h),
-    λ h. absurd (none_opened firsts seconds ls slice c.open_next.result none (sym c.is_some-some.ensures ∙ c.if-some.false) n h.0 h.1))
+    let none = rw (c.read.ensures.words, c.read-2.ensures.words) at c.open_next.ensures.none in (
+      λ h. absurd (c.clear_mask.ensures.none n h),
+      λ h. absurd (none_opened firsts seconds ls slice c.open_next.result none (sym c.is_some-some.ensures ∙ c.if-some.false) n h.0 h.1),
+    )

@@ -1,4 +1,4 @@
-use Rattle.std.proofs.Common.{ap, ◌∙◌}
+use Rattle.std.proofs.Common.{◌∙◌}
 use Rattle.pattern_rel.proofs.ShapeLaws.{beside_in_row, beside_in_column, beside_itself}
 use Rattle.pattern_rel.proofs.shape.Shape.partners_by.Goals as goal
 
