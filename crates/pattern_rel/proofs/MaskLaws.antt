@@ -1,15 +1,16 @@
 -- Laws of masks of a pool: what a step on one mask leaves of the others, and what steps make of sets.
-use Rattle.std.proofs.Common.{◌≡◌, ◌↔◌, ◌⊎◌, ℕ, ◌*◌, ◌<◌, ◌≤◌, List, [], Option, Some, None, IfSome, IfNone, is_some, true, false, ◌∙◌, refl, sym, inl, inr, subst, arith}
-use Rattle.std.proofs.lemmas.Bool.{both_ways}
+use Rattle.std.proofs.Common.{◌≡◌, ◌↔◌, ◌⊎◌, ℕ, ◌*◌, ◌<◌, ◌≤◌, List, [], ◌∷◌, length, filter, Bool, Option, Some, None, IfSome, IfNone, is_some, true, false, ◌∙◌, refl, sym, inl, inr, subst, arith}
+use Rattle.std.proofs.lemmas.Bool.{both_ways, cases_Bool}
 use Rattle.std.specs.List.{Contains}
 use Rattle.row_lanes.specs.Words.{Has, Meets}
 use Rattle.mask_pool.specs.Mask.{Stretch, words_for, DoNotOverlap}
 use Rattle.mask_pool.specs.Region.{Region, words_of}
 use Rattle.mask_pool.proofs.Loans.{length-words_of}
-use Rattle.cube_slices.specs.Lines.{Line, LinesAscend}
+use Rattle.cube_slices.specs.Lines.{Line, LinesAscend, pairs_of}
 use Rattle.cube_slices.specs.Folds.{IsRowKept}
+use Rattle.pattern_rel.specs.Left.{Relation, pairs_left, is_left}
 use Rattle.pattern_rel.specs.Shapes.{row_lines, row_of}
-use Rattle.pattern_rel.specs.Folds.{IsUsable, Keeps}
+use Rattle.pattern_rel.specs.Folds.{IsUsable, CanFold, Keeps}
 use Rattle.pattern_rel.specs.steps.Sets.{IsBeside}
 use Rattle.pattern_rel.specs.declared.walk.Opened.{Opened}
 use Rattle.pattern_rel.specs.steps.Opened.{IsOpened}
@@ -34,7 +35,29 @@ Keeps-then a b c m first second = record {
 pub IsUsable-kept : (old new : Region) (m other : Stretch) → Keeps old new m → IsUsable old other → IsUsable new other
 IsUsable-kept old new m other keeps usable = record { live = keeps.live other usable.live; few = usable.few }
 
+pub CanFold-kept : (old new : Region) (m own beside handed : Stretch) → Keeps old new m → CanFold old own beside handed → CanFold new own beside handed
+CanFold-kept old new m own beside handed keeps can = record {
+  first = IsUsable-kept old new m own keeps can.first;
+  second = IsUsable-kept old new m beside keeps can.second;
+  into = IsUsable-kept old new m handed keeps can.into;
+  first_apart = can.first_apart;
+  second_apart = can.second_apart;
+}
+
 pub ruleset kept = (Keeps-then, IsUsable-kept)
+
+-- no more pairs are left than there are
+pub left_few : (pool : Region) (rel : Relation) (n : ℕ) → length (pairs_of rel.lines) ≤ n → length (pairs_left pool rel) ≤ n
+left_few pool rel n few = omega (arith, kept_le (is_left (words_of pool rel.first) (words_of pool rel.second)) (pairs_of rel.lines))
+  where
+    kept_le : (test : ℕ × ℕ → Bool) (ps : List (ℕ × ℕ)) → length (filter test ps) ≤ length ps
+    kept_le test [] = omega arith
+    kept_le test (p ∷ ps) =
+        let rest = kept_le test ps in
+        elim (cases_Bool (test p)) [ inl passes ↦ rw passes (omega arith) | inr fails ↦ rw fails (omega arith) ]
+
+-- what a caller cites that folds again and again
+pub ruleset folds = (Keeps-then, IsUsable-kept, CanFold-kept, left_few)
 
 -- a mask that was not written has its words
 pub words_kept : (old new : Region) (m other : Stretch) → Keeps old new m → IsUsable old other → DoNotOverlap m other → words_of new other ≡ words_of old other

@@ -27,3 +27,6 @@ pub use prepared::{Entry, EntryList, MaskList, PlaceKind, Prepared, SidePlace};
 pub use relation::PatRel;
 pub use shape::Shape;
 pub use side::Side;
+
+#[cfg(test)]
+mod tests;

@@ -1,4 +1,4 @@
--- What is found: the first of the pairs left that is wanted.
+-- Carries proofs only: what is found: the first of the pairs left that is wanted.
 use Rattle.std.specs.Prelude.{◌≡◌, ◌↔◌, ℕ, ◌<◌, ◌≤◌, ◌-◌, ◌^◌, List, Option, Some, None, true, Contains}
 use Rattle.row_lanes.specs.Words.{Has}
 use Rattle.cube_slices.specs.Lines.{Line}

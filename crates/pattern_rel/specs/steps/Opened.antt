@@ -1,4 +1,4 @@
--- What a walk over the pairs left has found.
+-- Carries proofs only: what a walk over the pairs left has found.
 use Rattle.std.specs.Prelude.{◌≡◌, ℕ, ◌*◌, ◌<◌, ◌≤◌, List, length, Some}
 use Rattle.row_lanes.specs.Words.{Has}
 use Rattle.cube_slices.specs.Lines.{Line}

@@ -1,4 +1,4 @@
--- The place among a slice's lines that a walk has come to.
+-- Carries proofs only: the place among a slice's lines that a walk has come to.
 use Rattle.std.specs.Prelude.{ℕ, ◌≤◌, List, [], length}
 use Rattle.cube_slices.specs.Lines.{Line, IsPassed}
 use Rattle.pattern_rel.specs.declared.shape.Shape.{Shape}

@@ -1,4 +1,4 @@
--- What the loops find and leave, over sets of numbers.
+-- Carries proofs only: what the loops find and leave, over sets of numbers.
 use Rattle.std.specs.Prelude.{◌≡◌, ℕ, ◌<◌, ◌≤◌, List, [], ◌∷◌, Option, Some, None, Contains}
 use Rattle.row_lanes.specs.Words.{Has, Meets}
 use Rattle.cube_slices.specs.Lines.{Line}

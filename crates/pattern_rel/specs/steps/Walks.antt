@@ -1,4 +1,4 @@
--- The pairs left, from some number on.
+-- Carries proofs only: the pairs left, from some number on.
 use Rattle.std.specs.Prelude.{ℕ, ◌&&◌, List, [], ◌++◌, map, filter, if◌then◌else◌, nat_le}
 use Rattle.cube_slices.specs.Lines.{Line}
 use Rattle.pattern_rel.specs.Left.{is_in, left_in}
