@@ -1,0 +1,11 @@
+pub mod Examples
+pub mod LineLaws
+pub mod SetLaws
+pub mod ShapeLaws
+pub mod PlaceLaws
+pub mod FoldLaws
+pub mod PairLaws
+pub mod MaskLaws
+pub mod UnfoldLaws
+pub mod LeftLaws
+pub mod NextLaws

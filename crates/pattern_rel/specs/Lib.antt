@@ -1,0 +1,6 @@
+pub mod Shapes
+pub mod Left
+pub mod Folds
+pub mod Bounds
+pub mod Prepared
+pub mod steps
