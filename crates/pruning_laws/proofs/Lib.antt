@@ -1,0 +1,5 @@
+pub mod ArcConsistent
+pub mod Keeping
+pub mod PassLaws
+pub mod Settled
+pub mod Settling
