@@ -1,5 +1,9 @@
 pub mod ArcConsistent
+pub mod Bridge
 pub mod Keeping
 pub mod PassLaws
 pub mod Settled
 pub mod Settling
+pub mod Shape
+pub mod Shows
+pub mod TreeRounds

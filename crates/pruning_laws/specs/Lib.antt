@@ -1,3 +1,5 @@
+pub mod Matches
 pub mod Passes
 pub mod Scene
+pub mod Shown
 pub mod TreePasses
