@@ -100,4 +100,4 @@ not_consistent consistent =
       lacks : TakesValue as_terms b third 1 (codes "<c>") → ⊥
       lacks (inl at) = let e : 99 ≡ 98 = ap (λ list. get_or list 1 0) at.1 in omega (arith, e)
       lacks (inr (inl at)) = at.0
-      lacks (inr (inr at)) = let e : 2 ≡ 1 = at.0 in cc
+      lacks (inr (inr at)) = let e : 2 ≡ 1 = at.0 in omega (arith, e)

@@ -1,4 +1,5 @@
 pub mod Choices
+pub mod Connected
 pub mod ConsistentExamples
 pub mod Distinct
 pub mod EmptyPatterns

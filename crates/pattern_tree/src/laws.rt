@@ -10,7 +10,7 @@ ghost use Rattle.alg_model.specs.WellDesigned.{optionals_beside, optionals_of, I
 ghost use Rattle.pattern_tree.specs.Consistent.{IsPartOf, IsGreatestConsistent, IsLeftOf};
 ghost use Rattle.pattern_tree.specs.Parts.{IsMergeOf, IsAlone};
 ghost use Rattle.pattern_tree.specs.Solution.{Family, all_matches, IsPartialSolution, IsPartialRow, IsMaximalRow};
-ghost use Rattle.pattern_tree.specs.Standing.{StandsAt, IsNumbered};
+ghost use Rattle.pattern_tree.specs.Standing.{StandsAt, IsConnected, IsNumbered};
 ghost use Rattle.pattern_tree.specs.Tree.{TreeNode, root_patterns, tree_of};
 
 /// In a well-designed pattern a variable that occurs in a part and outside of it occurs in the root of the part's
@@ -69,6 +69,12 @@ pub fn pattern_tree_law<V, X>()
 pub fn node_number_law()
     ensures nodes { (pattern : Algebra) → map (λ node. node.patterns) (tree_of pattern) ≡ root_patterns pattern ∷ map (λ part. root_patterns part.right) (optionals_of pattern) }
     ensures optionals { (pattern : Algebra) → length (optionals_of pattern) ≡ optional_parts pattern }
+{}
+
+/// In the tree of a well-designed pattern the nodes at which a variable occurs are connected: a variable that occurs at
+/// a node and outside of the node's subtree occurs at the node's parent.
+pub fn connected_law()
+    ensures { (pattern : Algebra) → IsWellDesigned pattern → IsConnected (tree_of pattern) }
 {}
 
 /// Pruning keeps the partial solutions: where a family has the greatest consistent family that is part of the whole,
