@@ -11,22 +11,12 @@ use Rattle.pattern_tree.specs.Consistent.{TakesValue, IsConsistent, IsPartOf, Is
 use Rattle.pattern_tree.specs.Solution.{Family}
 use Rattle.pattern_tree.specs.Standing.{StandsAt, IsWithin, itself, below}
 use Rattle.pattern_tree.specs.Tree.{TreeNode}
+use Rattle.pattern_tree.proofs.Connected.{node_low, node_there}
 use Rattle.pattern_tree.proofs.Pruning.{Contains-map, map-Contains}
 use Rattle.pruning_laws.specs.Scene.{Scene, node_of, Has, Gives, IsAtOrAbove, here, above, StandsIn, Governs}
 use Rattle.pruning_laws.specs.Shown.{entry_of, shown}
 use Rattle.pruning_laws.proofs.ArcConsistent.{listed, LiesWithin, IsArcConsistent, IsGreatest, governs_from}
 use Rattle.pruning_laws.proofs.Shows.{Shows}
-
--- a node that is there has a number below how many there are
-pub node_low : (tree : List TreeNode) (k : ℕ) (node : TreeNode) → slice_get tree k ≡ Some node → k < length tree
-node_low [] k node is = cc
-node_low (root ∷ tree) zero node is = omega arith
-node_low (root ∷ tree) (suc k) node is = let low = node_low tree k node is in omega (arith, low)
-
-pub node_there : (tree : List TreeNode) (k : ℕ) → k < length tree → (node : TreeNode) × (slice_get tree k ≡ Some node)
-node_there [] k low = absurd (omega (arith, low))
-node_there (root ∷ tree) zero low = (root, refl)
-node_there (root ∷ tree) (suc k) low = node_there tree k (omega (arith, low))
 
 module _ {V X Y : Type 0} (interpretation : Interpretation V X) (tree : List TreeNode) (scene : Scene V Y) (triple : ℕ → Y → X) (shows : Shows interpretation tree scene triple) where
   -- ---- above and within

@@ -1,7 +1,9 @@
 pub mod ArcConsistent
 pub mod Bridge
+pub mod Columns
 pub mod Keeping
 pub mod PassLaws
+pub mod SceneShows
 pub mod Settled
 pub mod Settling
 pub mod Shape

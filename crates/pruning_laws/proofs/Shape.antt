@@ -10,13 +10,14 @@ use Rattle.join_graph.specs.Members.{Member}
 use Rattle.pattern_tree.specs.Consistent.{TakesValue, IsGreatestConsistent}
 use Rattle.pattern_tree.specs.Standing.{StandsAt, OccursAt, IsWithin, IsConnected}
 use Rattle.pattern_tree.specs.Tree.{TreeNode}
+use Rattle.pattern_tree.proofs.Connected.{node_low}
 use Rattle.pattern_tree.proofs.Pruning.{Contains-map}
 use Rattle.pruning_laws.specs.Matches.{AreMatches}
 use Rattle.pruning_laws.specs.Scene.{Scene, node_of, parent_in, Has, Gives, IsAtOrAbove, StandsIn}
 use Rattle.pruning_laws.specs.Shown.{entry_of, shown}
 use Rattle.pruning_laws.specs.TreePasses.{Holding, tree_passes}
 use Rattle.pruning_laws.proofs.ArcConsistent.{listed, LiesWithin, IsArcConsistent, IsGreatest, GivesOne, Fits, HasHere, IsTree, above_low}
-use Rattle.pruning_laws.proofs.Bridge.{node_low, up, down, greatest_shown}
+use Rattle.pruning_laws.proofs.Bridge.{up, down, greatest_shown}
 use Rattle.pruning_laws.proofs.Settling.{IsEnough}
 use Rattle.pruning_laws.proofs.Shows.{Shows}
 use Rattle.pruning_laws.proofs.TreeRounds.{IsPlan, two_passes_are_enough, unchanged_is_consistent}
