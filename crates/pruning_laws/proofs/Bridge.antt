@@ -15,6 +15,7 @@ use Rattle.pattern_tree.proofs.Connected.{node_low, node_there}
 use Rattle.pattern_tree.proofs.Pruning.{Contains-map, map-Contains}
 use Rattle.pruning_laws.specs.Scene.{Scene, node_of, Has, Gives, IsAtOrAbove, here, above, StandsIn, Governs}
 use Rattle.pruning_laws.specs.Shown.{entry_of, shown}
+use Rattle.pruning_laws.specs.TreePasses.{Holding}
 use Rattle.pruning_laws.proofs.ArcConsistent.{listed, LiesWithin, IsArcConsistent, IsGreatest, governs_from}
 use Rattle.pruning_laws.proofs.Shows.{Shows}
 
@@ -154,15 +155,22 @@ module _ {V X Y : Type 0} (interpretation : Interpretation V X) (tree : List Tre
             absurd (Contains-nil x (subst (λ l. Contains l x) empty at))
         some p q governs low x at (y ∷ list) e = let t = picked-each p governs.exists y (subst (λ l. Contains l y) (sym e) (Contains-head y list)) in (t.0, t.1)
 
-      -- so what has each arc-consistent list has the family
+      -- so what has each arc-consistent list has an item for each triple of the family
+      pub item_for : (target : Holding Y) → ((each : ℕ → List Y) → IsArcConsistent scene (listed each) → LiesWithin (listed each) (listed whole) → LiesWithin (listed each) target) →
+          (k : ℕ) (pattern : TriplePat) (x : X) → StandsAt tree k pattern → Contains (other pattern) x → (t : Y) × target (entry_of pattern) t × (triple (entry_of pattern) t ≡ x)
+      item_for target largest k pattern x stands at =
+          let p = entry_of pattern in
+          let in_p = shows.found k pattern stands in
+          let t = picked-each p in_p.0 x (subst (λ r. Contains (other r) x) (sym (shows.at_entry k pattern stands)) at) in
+          (t.0, largest picked picked-consistent (λ q s c. (picked-source q s c).1) p t.0 t.1, t.2)
+
+      -- and lists that have each have the family
       pub holds_family : (left : ℕ → List Y) → ((each : ℕ → List Y) → IsArcConsistent scene (listed each) → LiesWithin (listed each) (listed whole) → LiesWithin (listed each) (listed left)) →
           IsPartOf tree other (shown triple left)
       holds_family left largest k pattern x stands at =
           let p = entry_of pattern in
-          let in_p = shows.found k pattern stands in
-          let t = picked-each p in_p.0 x (subst (λ r. Contains (other r) x) (sym (shows.at_entry k pattern stands)) at) in
-          let among = largest picked picked-consistent (λ q s c. (picked-source q s c).1) p t.0 t.1 in
-          subst (Contains (map (triple p) (left p))) t.2 (Contains-map (triple p) (left p) t.0 among)
+          let t = item_for (listed left) largest k pattern x stands at in
+          subst (Contains (map (triple p) (left p))) t.2 (Contains-map (triple p) (left p) t.0 t.1)
 
   pub within_shown : (whole left : ℕ → List Y) → LiesWithin (listed left) (listed whole) → IsPartOf tree (shown triple left) (shown triple whole)
   within_shown whole left within k pattern x stands at =

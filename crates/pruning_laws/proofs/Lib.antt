@@ -2,7 +2,10 @@ pub mod ArcConsistent
 pub mod Bridge
 pub mod Columns
 pub mod Keeping
+pub mod NodePlans
+pub mod Pairing
 pub mod PassLaws
+pub mod RoundLaws
 pub mod SceneShows
 pub mod Settled
 pub mod Settling

@@ -76,7 +76,7 @@ parent_at (root ∷ tree) zero node is = let same : root ≡ node = cc in ap (λ
 parent_at (root ∷ tree) (suc k) node is = parent_at tree k node is
 
 -- what stands for no triple pattern
-abbrev no_pattern : TriplePat
+abbrev pub no_pattern : TriplePat
 no_pattern = record { subject = places.Term []; predicate = places.Term []; object = places.Term []; number = 0 }
 
 module _ {V X Y : Type 0} (interpretation : Interpretation V X) (readings : ℕ → Interpretation V Y) (triple : ℕ → Y → X) (reads : ReadsAs interpretation readings triple) (n : ℕ) (pattern : Algebra) (keeps : PatternKeepsLimits n pattern) where
@@ -123,6 +123,10 @@ module _ {V X Y : Type 0} (interpretation : Interpretation V X) (readings : ℕ 
         get_or_same [] i d e low = absurd (omega (arith, low))
         get_or_same (x ∷ xs) zero d e low = refl
         get_or_same (x ∷ xs) (suc i) d e low = get_or_same xs i d e (omega (arith, low))
+
+  -- it stands in the text at its place
+  pub text_at : (k : ℕ) (part : TriplePat) → StandsAt (tree_of pattern) k part → (entry_of part < length list) × (get_or list (entry_of part) no_pattern ≡ part)
+  text_at k part stands = let e = entry_for k part stands in (e.low, e.is)
 
   parents_first : (k : ℕ) → 0 < k → slice_index scene.parents k < k
   parents_first zero positive = absurd (omega (arith, positive))
