@@ -1,4 +1,6 @@
 pub mod Choices
+pub mod Connected
+pub mod ConsistentExamples
 pub mod Distinct
 pub mod EmptyPatterns
 pub mod Evaluation
@@ -7,8 +9,11 @@ pub mod FlatCells
 pub mod Growth
 pub mod NodeNumbers
 pub mod Nodes
+pub mod Numbered
 pub mod PatternTrees
+pub mod Pruning
 pub mod RootedSets
 pub mod RowExamples
+pub mod Standing
 pub mod TreeSizes
 pub mod Unions

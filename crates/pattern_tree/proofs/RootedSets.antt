@@ -50,7 +50,7 @@ HasSame-grouped a b c = subst (HasSame ((a ++ b) ++ c)) (append_assoc a b c) (Ha
 -- ---- a rooted set, part by part
 
 -- the root of a tree has no parent
-root_has_none : {A : Type 0} (patterns : List TriplePat) (node : TreeNode) (parent : ℕ) → Some (record { parent = None; patterns = patterns }) ≡ Some node → node.parent ≡ Some parent → A
+pub root_has_none : {A : Type 0} (patterns : List TriplePat) (node : TreeNode) (parent : ℕ) → Some (record { parent = None; patterns = patterns }) ≡ Some node → node.parent ≡ Some parent → A
 root_has_none patterns node parent is has =
     let root : record { parent = None; patterns = patterns } ≡ node = cc in
     let none : None ≡ node.parent = ap (λ node. node.parent) root in

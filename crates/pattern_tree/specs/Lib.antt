@@ -1,7 +1,9 @@
 pub mod BestRows
+pub mod Consistent
 pub mod FlatTable
 pub mod Growing
 pub mod Parts
 pub mod PatternTree
 pub mod Solution
+pub mod Standing
 pub mod Tree

@@ -1,14 +1,17 @@
 // The laws of pattern trees. Each call does nothing: its contract is the law.
-ghost use Rattle.std.specs.Prelude.{◌≡◌, ◌≢◌, ◌↔◌, ◌⊎◌, ◌∷◌, ℕ, List, map, length, All, AllPairs, Contains};
+ghost use Rattle.std.specs.Prelude.{◌≡◌, ◌≢◌, ◌↔◌, ◌⊎◌, ◌∷◌, ℕ, Bool, List, map, length, All, AllPairs, Contains};
 ghost use Rattle.alg_model.specs.declared.pattern.TriplePat.{TriplePat};
+ghost use Rattle.alg_model.specs.Limits.{PatternKeepsLimits};
 ghost use Rattle.alg_model.specs.Row.{Row, Extends};
 ghost use Rattle.alg_model.specs.Pattern.{Algebra, Bgp, Join, LeftJoin, HasVarsBelow, optional_parts, vars_of};
 ghost use Rattle.alg_model.specs.Eval.{Interpretation, eval};
 ghost use Rattle.alg_model.specs.Solution.{IsSolution, TellsValues, TellsTriples};
 ghost use Rattle.alg_model.specs.WellDesigned.{optionals_beside, optionals_of, IsFine, IsWellDesigned};
+ghost use Rattle.pattern_tree.specs.Consistent.{IsPartOf, IsGreatestConsistent, IsLeftOf};
 ghost use Rattle.pattern_tree.specs.Parts.{IsMergeOf, IsAlone};
-ghost use Rattle.pattern_tree.specs.Solution.{Family, all_matches, IsPartialRow, IsMaximalRow};
-ghost use Rattle.pattern_tree.specs.Tree.{root_patterns, tree_of};
+ghost use Rattle.pattern_tree.specs.Solution.{Family, all_matches, IsPartialSolution, IsPartialRow, IsMaximalRow};
+ghost use Rattle.pattern_tree.specs.Standing.{StandsAt, IsConnected, IsNumbered};
+ghost use Rattle.pattern_tree.specs.Tree.{TreeNode, root_patterns, tree_of};
 
 /// In a well-designed pattern a variable that occurs in a part and outside of it occurs in the root of the part's
 /// tree.
@@ -66,4 +69,28 @@ pub fn pattern_tree_law<V, X>()
 pub fn node_number_law()
     ensures nodes { (pattern : Algebra) → map (λ node. node.patterns) (tree_of pattern) ≡ root_patterns pattern ∷ map (λ part. root_patterns part.right) (optionals_of pattern) }
     ensures optionals { (pattern : Algebra) → length (optionals_of pattern) ≡ optional_parts pattern }
+{}
+
+/// In the tree of a well-designed pattern the nodes at which a variable occurs are connected: a variable that occurs at
+/// a node and outside of the node's subtree occurs at the node's parent.
+pub fn connected_law()
+    ensures { (pattern : Algebra) → IsWellDesigned pattern → IsConnected (tree_of pattern) }
+{}
+
+/// Pruning keeps the partial solutions: where a family has the greatest consistent family that is part of the whole,
+/// and is itself part of the whole, it has the same partial solutions as the whole. So has the greatest consistent
+/// family. It is a law of trees whose triple patterns have different numbers, as those of patterns within the limits.
+pub fn pruning_law<V, X>()
+    ensures numbered { (n : ℕ) (pattern : Algebra) → PatternKeepsLimits n pattern → IsNumbered (tree_of pattern) }
+    ensures between { (interpretation : Interpretation V X) (n : ℕ) (tree : List TreeNode) (whole least family : Family X) → IsNumbered tree →
+        IsGreatestConsistent interpretation tree whole least → IsPartOf tree least family → IsPartOf tree family whole →
+        (set : ℕ → Bool) (row : Row V) → IsPartialSolution interpretation n tree family set row ↔ IsPartialSolution interpretation n tree whole set row }
+{}
+
+/// What is left of the lists of a family is one: no two families are left of it that differ at a triple pattern of the
+/// tree.
+pub fn left_is_one_law<V, X>()
+    ensures { (interpretation : Interpretation V X) (tree : List TreeNode) (whole left other : Family X) →
+        IsLeftOf interpretation tree whole left → IsLeftOf interpretation tree whole other →
+        (k : ℕ) (pattern : TriplePat) → StandsAt tree k pattern → left pattern ≡ other pattern }
 {}

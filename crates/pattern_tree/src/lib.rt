@@ -11,8 +11,8 @@ mod tree;
 
 pub use flat_rows::FlatRows;
 pub use laws::{
-    maximal_solution_law, node_number_law, partial_solution_law, pattern_tree_law,
-    shared_variable_law,
+    connected_law, left_is_one_law, maximal_solution_law, node_number_law, partial_solution_law,
+    pattern_tree_law, pruning_law, shared_variable_law,
 };
 pub use node::PatRefs;
 pub use tree::{Tree, tree_of};

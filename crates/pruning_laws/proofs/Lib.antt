@@ -1,0 +1,14 @@
+pub mod ArcConsistent
+pub mod Bridge
+pub mod Columns
+pub mod Keeping
+pub mod NodePlans
+pub mod Pairing
+pub mod PassLaws
+pub mod RoundLaws
+pub mod SceneShows
+pub mod Settled
+pub mod Settling
+pub mod Shape
+pub mod Shows
+pub mod TreeRounds
