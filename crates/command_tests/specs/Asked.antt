@@ -1,5 +1,5 @@
 -- The worlds over which commands are tried, and what the program does to a world in memory.
-use Rattle.std.specs.Prelude.{ℕ, List, [], Some, codes}
+use Rattle.std.specs.Prelude.{ℕ, List, [], None, Some, codes}
 use Rattle.bm_world.specs.Meanings.{nothing_yet}
 use Rattle.bm_world.specs.MemWorld.{MemState, with_file}
 use Rattle.bm_world.specs.World.{no_faults}
