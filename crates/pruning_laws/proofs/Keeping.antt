@@ -57,7 +57,7 @@ module _ {V X : Type 0} (scene : Scene V X) where
         let x = gives_some scene p v has t in
         (Value x.0, (p, stands, (t, h, x.1)), x.1)
 
-    neighbours_balance : (m n : Member) → AreNeighbours k m n → Balanced (agrees scene) own m n
+    pub neighbours_balance : (m n : Member) → AreNeighbours k m n → Balanced (agrees scene) own m n
     neighbours_balance (Pattern p) (Variable v) near = (pattern_supports p v near.0 near.1, variable_supports p v near.0 near.1)
     neighbours_balance (Variable v) (Pattern p) near = (variable_supports p v near.0 near.1, pattern_supports p v near.0 near.1)
     neighbours_balance (Pattern p) (Pattern q) near = absurd near

@@ -1,8 +1,10 @@
 pub mod ArcConsistent
 pub mod Bridge
+pub mod Choices
 pub mod Columns
 pub mod Keeping
 pub mod NodePlans
+pub mod NodeSolutions
 pub mod Pairing
 pub mod PassLaws
 pub mod RoundLaws

@@ -98,7 +98,7 @@ module _ {V X : Type 0} (scene : Scene V X) where
 
   -- ---- pairs of a forest
 
-  of_each : (P : Member → Member → Type 0) (pairs : List (Member × Member)) (m n : Member) → OfEach P pairs → Contains pairs (m, n) → P m n
+  pub of_each : (P : Member → Member → Type 0) (pairs : List (Member × Member)) (m n : Member) → OfEach P pairs → Contains pairs (m, n) → P m n
   of_each P [] m n each at = absurd (Contains-nil (m, n) at)
   of_each P ((k, l) ∷ pairs) m n each at = elim (Contains-cons_cases (k, l) pairs (m, n) at) as (λ _. P m n) [
     | inl is ↦ subst (λ pair. P pair.0 pair.1) is each.0
