@@ -1,8 +1,7 @@
 -- Where all pairs are balanced and each first member stands in no later pair, every item is part of a choice: one item
 -- for each member, which agree along every pair.
-use Rattle.std.proofs.Common.{◌≡◌, ◌≢◌, ◌⊎◌, inl, inr, List, [], ◌∷◌, refl, sym, ◌∙◌, ap, subst}
-use Rattle.pruning_laws.specs.Passes.{HasPartner}
-use Rattle.pruning_laws.proofs.PassLaws.{IsFresh, GoOnce, OfEach, IsSymmetric, Supports, Balanced}
+use Rattle.std.proofs.Common.{◌≡◌, ◌≢◌, ◌⊎◌, inl, inr, List, [], ◌∷◌, refl, sym, ◌∙◌, subst}
+use Rattle.pruning_laws.proofs.PassLaws.{IsFresh, GoOnce, OfEach, IsSymmetric, Balanced}
 
 module _ {M I : Type 0} (same : (m n : M) → (m ≡ n) ⊎ (m ≢ n)) where
   changed_by : (choice : M → I) (i : I) (k m : M) → (k ≡ m) ⊎ (k ≢ m) → I
@@ -66,8 +65,7 @@ module _ {M I : Type 0} (same : (m n : M) → (m ≡ n) ⊎ (m ≢ n)) where
           let p = balanced.0.1 item held_m in
           let rest = choose pairs once.1.1 each.1 balanced.1 n p.0 p.1 in
           let choice = rest.0 in
-          let agrees : agree m item n (choice n) = subst (λ y. agree m item n y) (sym rest.1.at_first) (symmetric n p.0 m item p.2) in
-          (
+          let agrees : agree m item n (choice n) = subst (λ y. agree m item n y) (sym rest.1.at_first) (symmetric n p.0 m item p.2) in (
             changed choice m item,
             record {
               at_first = subst (λ k. changed choice m item k ≡ item) (sym is) (changed-at choice m item);

@@ -1,12 +1,12 @@
 -- Worked examples, by computation: the pairs of an order of removal, and the scene of a pattern.
-use Rattle.std.proofs.Common.{◌≡◌, ℕ, List, [], ◌∷◌, codes, refl}
+use Rattle.std.proofs.Common.{◌≡◌, ℕ, [], ◌∷◌, codes, refl}
 use Rattle.alg_model.specs.declared.pattern.Place.TheVariants as places
 use Rattle.alg_model.specs.declared.pattern.TriplePat.{TriplePat}
 use Rattle.alg_model.specs.Eval.{as_terms}
 use Rattle.alg_model.specs.Pattern.{Algebra, Bgp, LeftJoin}
 use Rattle.join_graph.specs.declared.steps.Step.TheVariants.{Pattern, Variable}
 use Rattle.pruning_laws.specs.Passes.{pairs_of}
-use Rattle.pruning_laws.specs.Scene.{node_of, parent_in, Has}
+use Rattle.pruning_laws.specs.Scene.{parent_in}
 use Rattle.pruning_laws.specs.SceneOf.{nodes_in, scene_of}
 use Rattle.pruning_laws.specs.Shown.{entry_of}
 use Rattle.pruning_laws.specs.TreePasses.{are_near}

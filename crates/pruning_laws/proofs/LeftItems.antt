@@ -1,5 +1,5 @@
 -- What is left of lists whose items stand for different triples is one.
-use Rattle.std.proofs.Common.{◌≡◌, ◌↔◌, ℕ, Bool, List, filter, Contains, refl, sym, ◌∙◌, subst}
+use Rattle.std.proofs.Common.{◌≡◌, ℕ, List, Contains, sym, ◌∙◌, subst}
 use Rattle.alg_model.specs.declared.pattern.TriplePat.{TriplePat}
 use Rattle.alg_model.specs.Eval.{Interpretation}
 use Rattle.pattern_tree.specs.Consistent.{IsPartOf}

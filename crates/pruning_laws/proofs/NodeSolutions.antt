@@ -1,11 +1,11 @@
 -- In a node that is a forest, each item of an arc-consistent family is part of a solution of the node.
-use Rattle.std.proofs.Common.{◌≡◌, ◌≢◌, ◌⊎◌, inl, inr, ℕ, zero, suc, ◌<◌, ◌≤◌, List, [], ◌∷◌, length, Contains, refl, sym, ◌∙◌, ap, subst, arith}
+use Rattle.std.proofs.Common.{◌≡◌, ◌⊎◌, inl, inr, ℕ, zero, suc, ◌<◌, List, [], ◌∷◌, length, Contains, refl, subst, arith}
 use Rattle.std.proofs.lemmas.Bool.{cases_eq, cases_lt}
 use Rattle.join_graph.specs.declared.steps.Step.TheVariants.{Pattern, Variable}
 use Rattle.join_graph.specs.Members.{Member}
 use Rattle.join_graph.proofs.Members.{cases_Member}
 use Rattle.pruning_laws.specs.Scene.{Column, Scene, columns_at, node_of, ColumnsHave, Has, Gives, here, StandsIn}
-use Rattle.pruning_laws.specs.TreePasses.{Holding, IsFilled, Occurs, Item, Triple, Value, agrees, holding}
+use Rattle.pruning_laws.specs.TreePasses.{Holding, IsFilled, Item, Triple, Value, agrees, holding}
 use Rattle.pruning_laws.proofs.ArcConsistent.{IsArcConsistent, GivesOne, HasHere, gives_some, has_given, governs_from}
 use Rattle.pruning_laws.proofs.Choices.{IsChoice, choose}
 use Rattle.pruning_laws.proofs.Keeping.{AreNeighbours, agrees-symmetric, values_in, neighbours_balance}
@@ -68,7 +68,7 @@ module _ {V X : Type 0} (scene : Scene V X) where
   SolvesNode family k value = (p : ℕ) → StandsIn scene p k → (t : X) × family p t × ((v : ℕ) (x : V) → Gives scene p t v x → value v ≡ x)
 
   module _ (family : Holding X) (consistent : IsArcConsistent scene family) (one : GivesOne scene family) (k : ℕ) (pairs : List (Member × Member)) (pairing : IsPairing k pairs)
-    (p0 : ℕ) (t0 : X) (stands0 : StandsIn scene p0 k) (held0 : family p0 t0) (nothing : V) where
+      (p0 : ℕ) (t0 : X) (stands0 : StandsIn scene p0 k) (held0 : family p0 t0) (nothing : V) where
     abbrev counts : Member → Type 0
     counts (Pattern p) = StandsIn scene p k
     counts (Variable v) = HasHere scene k v

@@ -1,5 +1,5 @@
 -- The pairs of an order of removal: where all members are removed, each edge makes a pair, one way or the other.
-use Rattle.std.proofs.Common.{◌≡◌, ◌≢◌, ◌↔◌, ◌⊎◌, inl, inr, ℕ, ◌<◌, ◌++◌, Bool, true, false, if◌then◌else◌, List, [], ◌∷◌, length, get_or, take, Option, Some, None, EachIndex, Contains, refl, sym, ◌∙◌, ap, subst, arith, append_assoc, eqb-true, eq-eqb}
+use Rattle.std.proofs.Common.{◌≡◌, ◌↔◌, ◌⊎◌, inl, inr, ℕ, ◌<◌, ◌++◌, Bool, true, false, if◌then◌else◌, List, [], ◌∷◌, length, get_or, take, Option, Some, None, EachIndex, Contains, refl, sym, ◌∙◌, ap, subst, arith, append_assoc, eqb-true, eq-eqb}
 use Rattle.std.specs.Int.{bit_at}
 use Rattle.std.specs.Prelude.{slice_index}
 use Rattle.std.specs.List.{HoldsAt}
@@ -7,8 +7,7 @@ use Rattle.std.proofs.lemmas.List.{take_at, get_or_at, length-append}
 use Rattle.std.proofs.lemmas.List.Elements.{Contains-append_left, Contains-push}
 use Rattle.bm_term.proofs.Elements.{Contains-head, Contains-tail, Contains-cons_cases, Contains-nil}
 use Rattle.join_graph.specs.declared.steps.Step.TheVariants.{Pattern, Variable}
-use Rattle.join_graph.specs.Core.{neighbours_in}
-use Rattle.join_graph.specs.Members.{Member, PatternHas, IsMember, IsNeighbour}
+use Rattle.join_graph.specs.Members.{Member, PatternHas, IsNeighbour}
 use Rattle.join_graph.specs.Removal.{IsLeft, IsLeaf, IsRemoval, RemovesAll}
 use Rattle.join_graph.proofs.Members.{IsMember-from_neighbour, IsNeighbour-sym}
 use Rattle.pruning_laws.specs.Passes.{partner, with_partner, pairs_of}
@@ -56,8 +55,7 @@ leaves_from sets steps leaves done (m ∷ rest) is =
     let leaf : IsLeaf sets (IsLeft sets (take i (done ++ m ∷ rest))) (get_or (done ++ m ∷ rest) i m) =
     subst (λ s. IsLeaf sets (IsLeft sets (take i s)) (get_or s i m)) (sym is) (leaves i low m) in
     let front : take i (done ++ m ∷ rest) ≡ done = take_at done (m ∷ rest) i refl in
-    let here : get_or (done ++ m ∷ rest) i m ≡ m = get_or_at done m rest m i refl in
-    (
+    let here : get_or (done ++ m ∷ rest) i m ≡ m = get_or_at done m rest m i refl in (
       subst (λ n. IsLeaf sets (IsLeft sets done) n) here (subst (λ before. IsLeaf sets (IsLeft sets before) (get_or (done ++ m ∷ rest) i m)) front leaf),
       leaves_from sets steps leaves (done ++ m ∷ []) rest (append_assoc done (m ∷ []) rest ∙ is),
     )

@@ -37,7 +37,7 @@ pub fn two_passes_law<V, X>()
         IsWellDesigned pattern → PatternKeepsLimits n pattern → ((k : ℕ) → k < length (tree_of pattern) → IsStripped (tree_of pattern) k (sets k) (steps k)) →
         AreMatches interpretation (tree_of pattern) whole →
         ((k : ℕ) (part : TriplePat) (triple : X) → StandsAt (tree_of pattern) k part →
-            Contains (left part) triple ↔ round_of interpretation pattern (λ k. pairs_by (sets k) (steps k)) whole part triple) →
+        Contains (left part) triple ↔ round_of interpretation pattern (λ k. pairs_by (sets k) (steps k)) whole part triple) →
         IsGreatestConsistent interpretation (tree_of pattern) whole left }
 {}
 
