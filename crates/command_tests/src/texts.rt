@@ -26,7 +26,12 @@ pub fn long_query(
 }
 
 /// So many variables from `?v1` on, each after a text, but the first after another.
-pub fn push_variables(text: &mut String, first: &str, other: &str, count: u32) -> Result<(), AllocError> {
+pub fn push_variables(
+    text: &mut String,
+    first: &str,
+    other: &str,
+    count: u32,
+) -> Result<(), AllocError> {
     for i in 0..count {
         text.push_str(if i == 0 { first } else { other })?;
         let number = i.wrapping_add(1);

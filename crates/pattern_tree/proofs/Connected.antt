@@ -9,9 +9,9 @@ use Rattle.alg_model.proofs.Lists.{Contains-flat_map, source-flat_map}
 use Rattle.pattern_tree.specs.Standing.{StandsAt, OccursAt, IsWithin, itself, below, IsConnected}
 use Rattle.pattern_tree.specs.Tree.{TreeNode, root_patterns, moved_parent, moved_option, moved, hung_parent, hung, nodes_below, tree_of}
 use Rattle.pattern_tree.proofs.Choices.{list_vars, IsFineBeside, fine-join_left, fine-join_right, fine-left_join_left, fine-left_join_right, ShareRoots, sides_share}
-use Rattle.pattern_tree.proofs.Nodes.{HasParent, at_front, at_back, at_either, at_map, from_map, below-HasParent}
+use Rattle.pattern_tree.proofs.Nodes.{at_front, at_back, at_either, at_map, from_map, below-HasParent}
 use Rattle.pattern_tree.proofs.RootedSets.{root_has_none}
-use Rattle.pattern_tree.proofs.Standing.{root_stands, stands-joined, stands-optional, stands-listed}
+use Rattle.pattern_tree.proofs.Standing.{stands-joined, stands-optional, stands-listed}
 
 -- ---- what stands there and what occurs there
 
@@ -245,7 +245,7 @@ own_var side k v occurs = let by = occurs_by (tree_of side) k v occurs in stands
 
 -- a variable at a node of a side that stands at another place of the whole occurs at the node's parent
 module _ (side : Algebra) (whole : List TreeNode) (place : ℕ → ℕ) (is : IsPartBy (tree_of side) whole place) (connected : IsConnected (tree_of side)) (k parent v : ℕ) (node : TreeNode)
-  (stands : slice_get whole k ≡ Some node) (from : IsNodeOf side place k parent node) (occurs : OccursAt whole k v) where
+    (stands : slice_get whole k ≡ Some node) (from : IsNodeOf side place k parent node) (occurs : OccursAt whole k v) where
   pub own_occurs : OccursAt (tree_of side) from.own v
   own_occurs = occurs_own side place whole k parent v node stands from occurs
 

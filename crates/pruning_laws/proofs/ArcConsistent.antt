@@ -1,6 +1,5 @@
 -- Arc consistency of a scene, and what is asked of scenes and of what their triple patterns hold.
-use Rattle.std.proofs.Common.{◌≡◌, ◌≢◌, ◌⊎◌, inl, inr, ℕ, zero, suc, ◌<◌, ◌≤◌, List, [], ◌∷◌, length, Contains, refl, sym, ◌∙◌, subst, arith}
-use Rattle.std.specs.Prelude.{slice_index}
+use Rattle.std.proofs.Common.{◌≡◌, inl, inr, ℕ, ◌<◌, ◌≤◌, List, [], ◌∷◌, length, Contains, refl, sym, subst, arith}
 use Rattle.pruning_laws.specs.Scene.{Column, Scene, columns_at, node_of, parent_in, ColumnsHave, ColumnsGive, Has, Gives, IsAtOrAbove, here, above, StandsIn, Governs}
 use Rattle.pruning_laws.specs.TreePasses.{Holding, IsFilled, Occurs}
 

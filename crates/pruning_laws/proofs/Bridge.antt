@@ -1,7 +1,7 @@
 -- From a scene to the tree that it shows: lists that are arc consistent there stand for a consistent family, and the
 -- greatest for the greatest.
-use Rattle.std.proofs.Common.{◌≡◌, ◌⊎◌, inl, inr, ℕ, zero, suc, ◌<◌, ◌≤◌, List, [], ◌∷◌, length, map, Some, Contains, refl, sym, ◌∙◌, ap, subst, arith}
-use Rattle.std.specs.Prelude.{slice_get, slice_index}
+use Rattle.std.proofs.Common.{◌≡◌, ◌⊎◌, inl, inr, ℕ, ◌<◌, ◌≤◌, List, [], ◌∷◌, length, map, Contains, refl, sym, ◌∙◌, ap, subst, arith}
+use Rattle.std.specs.Prelude.{slice_index}
 use Rattle.std.proofs.lemmas.Bool.{cases_lt}
 use Rattle.bm_term.proofs.Elements.{Contains-head, Contains-tail, Contains-cons_cases, Contains-nil}
 use Rattle.alg_model.specs.declared.pattern.TriplePat.{TriplePat}
@@ -57,8 +57,7 @@ module _ {V X Y : Type 0} (interpretation : Interpretation V X) (tree : List Tre
         let gives : Gives scene q t.0 var value = (shows.gives q t.0 var value in_q.0).1
         (subst (λ r. TakesValue interpretation r (triple q t.0) var value) (sym (shows.at_entry k pattern stands)) (subst (λ y. TakesValue interpretation pattern y var value) (sym t.2) takes)) in
         let has_p : Has scene p var = (shows.has p var in_p.0).1 (subst (λ r. Contains (triple_vars r) var) (sym (shows.at_entry higher other stands')) has) in
-        let o = consistent.values p q var value (governs_down k higher pattern other stands stands' within) has_p (t.0, t.1, gives) in
-        (
+        let o = consistent.values p q var value (governs_down k higher pattern other stands stands' within) has_p (t.0, t.1, gives) in (
           triple p o.0,
           Contains-map (triple p) (lists p) o.0 o.1,
           subst (λ r. TakesValue interpretation r (triple p o.0) var value) (shows.at_entry higher other stands') ((shows.gives p o.0 var value in_p.0).0 o.2),

@@ -92,7 +92,7 @@ module _ {V Y : Type 0} where
         ]
 
   module _ {X : Type 0} (interpretation : Interpretation V X) (reading : Interpretation V Y) (pattern : TriplePat) (t : Y) (triple : X)
-    (subject : reading.subject t ≡ interpretation.subject triple) (predicate : reading.predicate t ≡ interpretation.predicate triple) (object : reading.object t ≡ interpretation.object triple) where
+      (subject : reading.subject t ≡ interpretation.subject triple) (predicate : reading.predicate t ≡ interpretation.predicate triple) (object : reading.object t ≡ interpretation.object triple) where
     abbrev s : List (Column V Y)
     s = place_columns pattern.subject reading.subject
 

@@ -1,10 +1,9 @@
 -- Two passes over a node keep every arc-consistent family, whatever the pairs, if each is of neighbours in the node.
-use Rattle.std.proofs.Common.{◌≡◌, ◌≢◌, ℕ, zero, suc, ◌<◌, ◌≤◌, List, [], ◌∷◌, length, refl, sym, ◌∙◌, ap, subst, arith}
+use Rattle.std.proofs.Common.{◌≡◌, ◌≢◌, ℕ, zero, suc, List, [], ◌∷◌, refl, sym, ◌∙◌, subst, arith}
 use Rattle.join_graph.specs.declared.steps.Step.TheVariants.{Pattern, Variable}
 use Rattle.join_graph.specs.Members.{Member}
-use Rattle.pruning_laws.specs.Passes.{HasPartner, two_passes}
-use Rattle.pruning_laws.specs.Scene.{Scene, node_of, parent_in, Has, Gives, here, above, StandsIn, Governs}
-use Rattle.pruning_laws.specs.TreePasses.{Holding, IsFilled, Occurs, Item, Triple, Value, agrees, holding, items_of, first_values, emptied, at_end, node_passes, tree_passes}
+use Rattle.pruning_laws.specs.Scene.{Scene, node_of, parent_in, Has, here, above, StandsIn}
+use Rattle.pruning_laws.specs.TreePasses.{Holding, Occurs, Item, Triple, Value, agrees, holding, first_values, at_end, node_passes}
 use Rattle.pruning_laws.proofs.PassLaws.{IsFresh, OfEach, OfEach-weaker, Within, IsSymmetric, Supports, Balanced, two_passes-within, two_passes-fresh, two_passes-keep}
 use Rattle.pruning_laws.proofs.ArcConsistent.{LiesWithin, IsArcConsistent, gives_some, governs_from}
 
@@ -57,7 +56,7 @@ module _ {V X : Type 0} (scene : Scene V X) where
         let x = gives_some scene p v has t in
         (Value x.0, (p, stands, (t, h, x.1)), x.1)
 
-    neighbours_balance : (m n : Member) → AreNeighbours k m n → Balanced (agrees scene) own m n
+    pub neighbours_balance : (m n : Member) → AreNeighbours k m n → Balanced (agrees scene) own m n
     neighbours_balance (Pattern p) (Variable v) near = (pattern_supports p v near.0 near.1, variable_supports p v near.0 near.1)
     neighbours_balance (Variable v) (Pattern p) near = (variable_supports p v near.0 near.1, pattern_supports p v near.0 near.1)
     neighbours_balance (Pattern p) (Pattern q) near = absurd near

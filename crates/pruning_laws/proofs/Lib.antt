@@ -1,8 +1,12 @@
 pub mod ArcConsistent
 pub mod Bridge
+pub mod Choices
 pub mod Columns
+pub mod Examples
 pub mod Keeping
+pub mod LeftItems
 pub mod NodePlans
+pub mod NodeSolutions
 pub mod Pairing
 pub mod PassLaws
 pub mod RoundLaws

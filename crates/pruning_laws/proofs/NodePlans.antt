@@ -1,5 +1,5 @@
 -- The pairs that passes over the nodes of a tree may take, as pairs of a scene that shows the tree.
-use Rattle.std.proofs.Common.{◌≡◌, ◌↔◌, ◌⊎◌, inl, inr, ℕ, ◌<◌, List, [], ◌∷◌, length, Contains, refl, sym, subst}
+use Rattle.std.proofs.Common.{◌⊎◌, inl, inr, ℕ, ◌<◌, List, [], ◌∷◌, Contains, sym, subst}
 use Rattle.alg_model.specs.Eval.{Interpretation}
 use Rattle.alg_model.specs.Pattern.{triple_vars}
 use Rattle.bm_term.proofs.Elements.{Contains-head, Contains-tail}
@@ -10,7 +10,7 @@ use Rattle.pruning_laws.specs.Plans.{IsEdge, IsStripped, pairs_by, IsEdgePair, A
 use Rattle.pruning_laws.specs.Scene.{Scene, Has, StandsIn}
 use Rattle.pruning_laws.specs.Shown.{entry_of}
 use Rattle.pruning_laws.proofs.Keeping.{AreNeighbours}
-use Rattle.pruning_laws.proofs.Pairing.{AreSetsThatMatter, enough_from_removal}
+use Rattle.pruning_laws.proofs.Pairing.{enough_from_removal}
 use Rattle.pruning_laws.proofs.PassLaws.{OfEach}
 use Rattle.pruning_laws.proofs.Settling.{IsEnough, IsForward, IsCover}
 use Rattle.pruning_laws.proofs.Shows.{Shows}

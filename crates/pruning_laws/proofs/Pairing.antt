@@ -1,5 +1,5 @@
 -- The pairs of an order of removal: where all members are removed, each edge makes a pair, one way or the other.
-use Rattle.std.proofs.Common.{◌≡◌, ◌≢◌, ◌↔◌, ◌⊎◌, inl, inr, ℕ, ◌<◌, ◌++◌, Bool, true, false, if◌then◌else◌, List, [], ◌∷◌, length, get_or, take, Option, Some, None, EachIndex, Contains, refl, sym, ◌∙◌, ap, subst, arith, append_assoc, eqb-true, eq-eqb}
+use Rattle.std.proofs.Common.{◌≡◌, ◌↔◌, ◌⊎◌, inl, inr, ℕ, ◌<◌, ◌++◌, Bool, true, false, if◌then◌else◌, List, [], ◌∷◌, length, get_or, take, Option, Some, None, EachIndex, Contains, refl, sym, ◌∙◌, ap, subst, arith, append_assoc, eqb-true, eq-eqb}
 use Rattle.std.specs.Int.{bit_at}
 use Rattle.std.specs.Prelude.{slice_index}
 use Rattle.std.specs.List.{HoldsAt}
@@ -7,8 +7,7 @@ use Rattle.std.proofs.lemmas.List.{take_at, get_or_at, length-append}
 use Rattle.std.proofs.lemmas.List.Elements.{Contains-append_left, Contains-push}
 use Rattle.bm_term.proofs.Elements.{Contains-head, Contains-tail, Contains-cons_cases, Contains-nil}
 use Rattle.join_graph.specs.declared.steps.Step.TheVariants.{Pattern, Variable}
-use Rattle.join_graph.specs.Core.{neighbours_in}
-use Rattle.join_graph.specs.Members.{Member, PatternHas, IsMember, IsNeighbour}
+use Rattle.join_graph.specs.Members.{Member, PatternHas, IsNeighbour}
 use Rattle.join_graph.specs.Removal.{IsLeft, IsLeaf, IsRemoval, RemovesAll}
 use Rattle.join_graph.proofs.Members.{IsMember-from_neighbour, IsNeighbour-sym}
 use Rattle.pruning_laws.specs.Passes.{partner, with_partner, pairs_of}
@@ -16,6 +15,7 @@ use Rattle.pruning_laws.specs.Scene.{Scene, Has, StandsIn}
 use Rattle.pruning_laws.specs.TreePasses.{are_near}
 use Rattle.pruning_laws.proofs.PassLaws.{IsFresh, GoOnce, OfEach}
 use Rattle.pruning_laws.proofs.Keeping.{AreNeighbours}
+use Rattle.pruning_laws.proofs.NodeSolutions.{IsPairing}
 use Rattle.pruning_laws.proofs.Settling.{Matters, IsEnough}
 
 -- ---- the first that is near
@@ -55,8 +55,7 @@ leaves_from sets steps leaves done (m ∷ rest) is =
     let leaf : IsLeaf sets (IsLeft sets (take i (done ++ m ∷ rest))) (get_or (done ++ m ∷ rest) i m) =
     subst (λ s. IsLeaf sets (IsLeft sets (take i s)) (get_or s i m)) (sym is) (leaves i low m) in
     let front : take i (done ++ m ∷ rest) ≡ done = take_at done (m ∷ rest) i refl in
-    let here : get_or (done ++ m ∷ rest) i m ≡ m = get_or_at done m rest m i refl in
-    (
+    let here : get_or (done ++ m ∷ rest) i m ≡ m = get_or_at done m rest m i refl in (
       subst (λ n. IsLeaf sets (IsLeft sets done) n) here (subst (λ before. IsLeaf sets (IsLeft sets before) (get_or (done ++ m ∷ rest) i m)) front leaf),
       leaves_from sets steps leaves (done ++ m ∷ []) rest (append_assoc done (m ∷ []) rest ∙ is),
     )
@@ -165,29 +164,41 @@ not_near_itself : (sets : List ℕ) (m : Member) → are_near sets m m ≡ true 
 not_near_itself sets (Pattern p) is = cc
 not_near_itself sets (Variable v) is = cc
 
+-- where all members are removed each edge makes a pair
+edge_pair : (sets : List ℕ) (steps : List Member) → IsRemoval sets steps → RemovesAll sets steps → (p v : ℕ) → PatternHas sets p v →
+    Contains (pairs_of (are_near sets) steps) (Pattern p, Variable v) ⊎ Contains (pairs_of (are_near sets) steps) (Variable v, Pattern p)
+edge_pair sets steps removal removes p v edge =
+    let back : IsNeighbour sets (Variable v) (Pattern p) = IsNeighbour-sym sets (Pattern p) (Variable v) edge in
+    each_edge (are_near sets) sets [] steps (Pattern p) (Variable v) (near_neighbour sets) (not_near_itself sets) (leaves_from sets steps removal.leaves [] steps refl)
+    (removes (Pattern p) (IsMember-from_neighbour sets (Pattern p) (Variable v) edge))
+    (removes (Variable v) (IsMember-from_neighbour sets (Variable v) (Pattern p) back))
+    (neighbour_near sets (Pattern p) (Variable v) edge)
+    (neighbour_near sets (Variable v) (Pattern p) back)
+
 module _ {V X : Type 0} (scene : Scene V X) (k : ℕ) (sets : List ℕ) where
   -- the sets have the variables of the node's triple patterns that matter, and no others
   pub record AreSetsThatMatter : Type 0 where
     pub some : (p v : ℕ) → PatternHas sets p v → StandsIn scene p k × Has scene p v
     pub all : (p v : ℕ) → StandsIn scene p k → Has scene p v → Matters scene k v → PatternHas sets p v
 
+  near_here : ((p v : ℕ) → PatternHas sets p v → StandsIn scene p k × Has scene p v) → (m n : Member) → are_near sets m n ≡ true → AreNeighbours scene k m n
+  near_here some (Pattern p) (Variable v) is = some p v (near_neighbour sets (Pattern p) (Variable v) is)
+  near_here some (Variable v) (Pattern p) is = some p v (near_neighbour sets (Variable v) (Pattern p) is)
+  near_here some (Pattern p) (Pattern q) is = cc
+  near_here some (Variable v) (Variable w) is = cc
+
   -- the pairs of a removal of all members are enough
   pub enough_from_removal : AreSetsThatMatter → (steps : List Member) → IsRemoval sets steps → RemovesAll sets steps → IsEnough scene k (pairs_of (are_near sets) steps)
-  enough_from_removal are steps removal removes =
-      let leaves = leaves_from sets steps removal.leaves [] steps refl in
-      record {
-        once = go_once (are_near sets) sets [] steps leaves;
-        each = each_near (are_near sets) (AreNeighbours scene k) neighbours steps;
-        all = λ p v stands has matters.
-            let edge : IsNeighbour sets (Pattern p) (Variable v) = are.all p v stands has matters in
-            each_edge (are_near sets) sets [] steps (Pattern p) (Variable v) (near_neighbour sets) (not_near_itself sets) leaves
-            (removes (Pattern p) (IsMember-from_neighbour sets (Pattern p) (Variable v) edge))
-            (removes (Variable v) (IsMember-from_neighbour sets (Variable v) (Pattern p) (IsNeighbour-sym sets (Pattern p) (Variable v) edge)))
-            (neighbour_near sets (Pattern p) (Variable v) edge)
-            (neighbour_near sets (Variable v) (Pattern p) (IsNeighbour-sym sets (Pattern p) (Variable v) edge));
-      } where
-        neighbours : (m n : Member) → are_near sets m n ≡ true → AreNeighbours scene k m n
-        neighbours (Pattern p) (Variable v) is = are.some p v (near_neighbour sets (Pattern p) (Variable v) is)
-        neighbours (Variable v) (Pattern p) is = are.some p v (near_neighbour sets (Variable v) (Pattern p) is)
-        neighbours (Pattern p) (Pattern q) is = cc
-        neighbours (Variable v) (Variable w) is = cc
+  enough_from_removal are steps removal removes = record {
+    once = go_once (are_near sets) sets [] steps (leaves_from sets steps removal.leaves [] steps refl);
+    each = each_near (are_near sets) (AreNeighbours scene k) (near_here are.some) steps;
+    all = λ p v stands has matters. edge_pair sets steps removal removes p v (are.all p v stands has matters);
+  }
+
+  -- and where the sets have all variables of the node's triple patterns, the pairs have all edges
+  pub pairing_from_removal : ((p v : ℕ) → PatternHas sets p v ↔ (StandsIn scene p k × Has scene p v)) → (steps : List Member) → IsRemoval sets steps → RemovesAll sets steps → IsPairing scene k (pairs_of (are_near sets) steps)
+  pairing_from_removal same steps removal removes = record {
+    once = go_once (are_near sets) sets [] steps (leaves_from sets steps removal.leaves [] steps refl);
+    each = each_near (are_near sets) (AreNeighbours scene k) (near_here (λ p v. (same p v).0)) steps;
+    all = λ p v stands has. edge_pair sets steps removal removes p v ((same p v).1 (stands, has));
+  }

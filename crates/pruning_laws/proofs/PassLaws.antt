@@ -113,10 +113,9 @@ module _ {M I : Type 0} (agree : M → I → M → I → Type 0) where
       let cut = reduce agree m n held in
       let inner = two_passes agree pairs cut in
       let forward : Supports inner m n = (λ j h.
-        let before = two_passes-within pairs cut n j h in
-        let p = before.1 refl in
-        (p.0, two_passes-fresh pairs cut m p.0 once.1.0 (p.1, λ e. absurd (once.0 (sym e))), p.2)) in
-      (
+      let before = two_passes-within pairs cut n j h in
+      let p = before.1 refl in
+      (p.0, two_passes-fresh pairs cut m p.0 once.1.0 (p.1, λ e. absurd (once.0 (sym e))), p.2)) in (
         (cut_keeps symmetric inner m n once.0 forward, cut_supports inner m n once.0),
         others_stay inner m n pairs once.1.0 (two_passes-balance symmetric pairs cut once.1.1),
       )

@@ -1,5 +1,5 @@
 -- Rounds over families of triples: they keep each consistent family, and what one leaves as it is, is consistent.
-use Rattle.std.proofs.Common.{◌≡◌, ◌↔◌, inl, inr, ℕ, zero, suc, ◌<◌, ◌≤◌, List, [], ◌∷◌, length, map, get_or, Contains, refl, sym, ◌∙◌, ap, subst, arith}
+use Rattle.std.proofs.Common.{◌≡◌, ◌↔◌, inl, inr, ℕ, ◌<◌, ◌≤◌, List, [], ◌∷◌, length, map, Contains, refl, sym, ◌∙◌, ap, subst, arith}
 use Rattle.std.proofs.lemmas.Bool.{cases_lt}
 use Rattle.std.proofs.lemmas.List.{get_or-map, get_or_past, length-map}
 use Rattle.bm_term.proofs.Elements.{Contains-nil}
@@ -9,9 +9,9 @@ use Rattle.alg_model.specs.Limits.{PatternKeepsLimits}
 use Rattle.alg_model.specs.Pattern.{Algebra, triple_patterns}
 use Rattle.alg_model.specs.WellDesigned.{IsWellDesigned}
 use Rattle.join_graph.specs.Members.{Member}
-use Rattle.pattern_tree.specs.Consistent.{TakesValue, IsConsistent, IsPartOf, IsGreatestConsistent}
+use Rattle.pattern_tree.specs.Consistent.{IsConsistent, IsPartOf, IsGreatestConsistent}
 use Rattle.pattern_tree.specs.Solution.{Family}
-use Rattle.pattern_tree.specs.Standing.{StandsAt, IsConnected}
+use Rattle.pattern_tree.specs.Standing.{StandsAt}
 use Rattle.pattern_tree.specs.Tree.{TreeNode, tree_of}
 use Rattle.pattern_tree.proofs.Connected.{tree-connected}
 use Rattle.pattern_tree.proofs.Pruning.{Contains-map, map-Contains}
@@ -150,9 +150,9 @@ module _ {V X : Type 0} (interpretation : Interpretation V X) (n : ℕ) (pattern
               let is_entry = shows.entry_at p from.0 from.1 in
               let shown_at : Contains (shown itself each (shows.pattern_at p)) t = subst (λ e. Contains (map (itself e) (each e)) t) (sym is_entry) (Contains-map (itself p) (each p) t at) in
               let is_part : IsPartOf tree (shown itself each) whole = (λ k q s stands c.
-                let found = map-Contains (itself (entry_of q)) (each (entry_of q)) s c in
-                let there = within (entry_of q) found.0 found.1 in
-                subst (λ l. Contains l s) (at_entry whole k q stands) (subst (Contains (lists_of pattern whole (entry_of q))) found.2 there)) in
+              let found = map-Contains (itself (entry_of q)) (each (entry_of q)) s c in
+              let there = within (entry_of q) found.0 found.1 in
+              subst (λ l. Contains l s) (at_entry whole k q stands) (subst (Contains (lists_of pattern whole (entry_of q))) found.2 there)) in
               let there = has (shown itself each) is_part (consistent_shown interpretation tree scene itself shows each consistent) from.0 (shows.pattern_at p) t from.2 shown_at in
               subst (λ l. Contains l t) (sym (at_place left p from.0 from.1)) there
 
@@ -178,16 +178,16 @@ module _ {V X : Type 0} (interpretation : Interpretation V X) (n : ℕ) (pattern
           left_is : (p : ℕ) (t : X) → Contains (lists_of pattern left p) t ↔ tree_passes scene pairs (length scene.parents) (listed (lists_of pattern whole)) p t
           left_is p t = (
             λ at. (
-              let from = to_family left p t at in
-              let there = (is from.0 (shows.pattern_at p) t from.2).0 from.3 in
-              subst (λ n. tree_passes scene pairs n (listed (lists_of pattern whole)) p t) (sym shows.nodes)
-              (subst (λ p. tree_passes scene pairs (length tree) (listed (lists_of pattern whole)) p t) (shows.entry_at p from.0 from.1) there)
-            ),
+                let from = to_family left p t at in
+                let there = (is from.0 (shows.pattern_at p) t from.2).0 from.3 in
+                subst (λ n. tree_passes scene pairs n (listed (lists_of pattern whole)) p t) (sym shows.nodes)
+                (subst (λ p. tree_passes scene pairs (length tree) (listed (lists_of pattern whole)) p t) (shows.entry_at p from.0 from.1) there)
+                ),
             λ h. (
-              let from = to_family whole p t (round_within scene pairs (listed (lists_of pattern whole)) (length scene.parents) p t h) in
-              let there : round_of interpretation pattern pairs whole (shows.pattern_at p) t =
-              subst (λ p. tree_passes scene pairs (length tree) (listed (lists_of pattern whole)) p t) (sym (shows.entry_at p from.0 from.1))
-              (subst (λ n. tree_passes scene pairs n (listed (lists_of pattern whole)) p t) shows.nodes h) in
-              subst (λ l. Contains l t) (sym (at_place left p from.0 from.1)) ((is from.0 (shows.pattern_at p) t from.2).1 there)
-            ),
+                let from = to_family whole p t (round_within scene pairs (listed (lists_of pattern whole)) (length scene.parents) p t h) in
+                let there : round_of interpretation pattern pairs whole (shows.pattern_at p) t =
+                subst (λ p. tree_passes scene pairs (length tree) (listed (lists_of pattern whole)) p t) (sym (shows.entry_at p from.0 from.1))
+                (subst (λ n. tree_passes scene pairs n (listed (lists_of pattern whole)) p t) shows.nodes h) in
+                subst (λ l. Contains l t) (sym (at_place left p from.0 from.1)) ((is from.0 (shows.pattern_at p) t from.2).1 there)
+                ),
           )

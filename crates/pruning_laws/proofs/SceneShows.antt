@@ -1,5 +1,5 @@
 -- The scene of a pattern that keeps the limits shows its tree.
-use Rattle.std.proofs.Common.{◌≡◌, ◌↔◌, ◌⊎◌, inl, inr, ℕ, zero, suc, ◌+◌, ◌-◌, ◌<◌, ◌≤◌, ◌++◌, List, [], ◌∷◌, length, map, get_or, Option, Some, None, Contains, refl, sym, ◌∙◌, ap, subst, arith}
+use Rattle.std.proofs.Common.{◌≡◌, ◌↔◌, inl, inr, ℕ, zero, suc, ◌+◌, ◌-◌, ◌<◌, ◌++◌, List, [], ◌∷◌, length, map, get_or, Some, Contains, refl, sym, ◌∙◌, ap, subst, arith}
 use Rattle.std.specs.Prelude.{slice_get, slice_index}
 use Rattle.std.proofs.lemmas.Bool.{cases_lt}
 use Rattle.std.proofs.lemmas.List.{get_or_append_left, get_or-append_right, get_or-map, get_or_past, length-append, length-map}
@@ -17,8 +17,8 @@ use Rattle.pattern_tree.proofs.Nodes.{below-HasParent}
 use Rattle.pattern_tree.proofs.Numbered.{AreNumberedFrom, numbered_patterns, one_place}
 use Rattle.pattern_tree.proofs.RootedSets.{root_has_none}
 use Rattle.pattern_tree.proofs.Standing.{root_stands, stands-listed}
-use Rattle.pruning_laws.specs.Scene.{Scene, node_of, columns_at, Has, Gives, StandsIn}
-use Rattle.pruning_laws.specs.SceneOf.{columns_of, columns_from, nodes_in, number_of, scene_of, ReadsAs}
+use Rattle.pruning_laws.specs.Scene.{Scene, columns_at, Has, Gives}
+use Rattle.pruning_laws.specs.SceneOf.{columns_of, nodes_in, number_of, scene_of, ReadsAs}
 use Rattle.pruning_laws.specs.Shown.{entry_of}
 use Rattle.pruning_laws.proofs.Columns.{has-columns, gives-columns, length-columns, columns_at-text}
 use Rattle.pruning_laws.proofs.Shows.{Shows}

@@ -1,7 +1,7 @@
 -- What is settled node by node is arc consistent, since the variables of a node that stand above it stand in its parent.
-use Rattle.std.proofs.Common.{◌≡◌, ◌↔◌, ℕ, zero, suc, ◌<◌, ◌≤◌, List, length, refl, sym, ◌∙◌, subst, arith}
-use Rattle.pruning_laws.specs.Scene.{Scene, node_of, parent_in, Has, Gives, IsAtOrAbove, here, above, StandsIn, Governs}
-use Rattle.pruning_laws.specs.TreePasses.{Holding, IsFilled, Occurs}
+use Rattle.std.proofs.Common.{◌≡◌, ◌↔◌, ℕ, ◌<◌, ◌≤◌, length, refl, sym, subst, arith}
+use Rattle.pruning_laws.specs.Scene.{Scene, node_of, parent_in, Has, IsAtOrAbove, here, above, StandsIn}
+use Rattle.pruning_laws.specs.TreePasses.{Holding, Occurs}
 use Rattle.pruning_laws.proofs.ArcConsistent.{IsArcConsistent, IsSettled, Fits, IsTree, has_given, above_low}
 
 module _ {V X : Type 0} (scene : Scene V X) where
@@ -14,7 +14,7 @@ module _ {V X : Type 0} (scene : Scene V X) where
     rises p v x k exists has (above positive way) q stands occurs =
         let has_q = has_given scene q occurs.0 v x occurs.2 in
         let up = tree.come_down p q v exists stands.0 (subst (λ k. 0 < k) (sym stands.1) positive)
-            (subst (λ k. IsAtOrAbove scene.parents (node_of scene p) (parent_in scene k)) (sym stands.1) way) has has_q in
+        (subst (λ k. IsAtOrAbove scene.parents (node_of scene p) (parent_in scene k)) (sym stands.1) way) has has_q in
         let up_stands : StandsIn scene up.0 (parent_in scene k) = subst (λ k. StandsIn scene up.0 (parent_in scene k)) stands.1 up.1 in
         let small = subst (λ k. k < length scene.parents) stands.1 (tree.placed q stands.0) in
         let there = (settled k small).under up.0 q v x positive up_stands stands up.2 has_q occurs in

@@ -1,15 +1,15 @@
 -- Two passes settle a node where they balance each triple pattern with those of its variables that matter: that stand in
 -- another triple pattern of the node, or in its parent.
-use Rattle.std.proofs.Common.{◌≡◌, ◌≢◌, ◌⊎◌, inl, inr, ℕ, zero, suc, ◌<◌, ◌≤◌, List, [], ◌∷◌, length, Contains, refl, sym, ◌∙◌, ap, subst, arith}
+use Rattle.std.proofs.Common.{◌≡◌, ◌≢◌, ◌⊎◌, inl, inr, ℕ, zero, suc, ◌<◌, List, [], ◌∷◌, Contains, sym, ◌∙◌, ap, subst, arith}
 use Rattle.std.proofs.lemmas.Bool.{cases_eq}
 use Rattle.bm_term.proofs.Elements.{Contains-cons_cases, Contains-nil}
 use Rattle.join_graph.specs.declared.steps.Step.TheVariants.{Pattern, Variable}
 use Rattle.join_graph.specs.Members.{Member}
-use Rattle.pruning_laws.specs.Passes.{HasPartner, reduce, first_pass, second_pass, two_passes}
-use Rattle.pruning_laws.specs.Scene.{Scene, node_of, parent_in, Has, Gives, StandsIn, Governs}
-use Rattle.pruning_laws.specs.TreePasses.{Holding, IsFilled, Occurs, Item, Triple, Value, agrees, holding, items_of, first_values, emptied, at_end, node_passes}
-use Rattle.pruning_laws.proofs.PassLaws.{GoOnce, OfEach, Supports, Balanced, first_pass-within, second_pass-within, two_passes-within, two_passes-balance}
-use Rattle.pruning_laws.proofs.ArcConsistent.{LiesWithin, IsSettled, GivesOne, Fits, IsTree, has_given, governs_same}
+use Rattle.pruning_laws.specs.Passes.{HasPartner, reduce, first_pass, second_pass}
+use Rattle.pruning_laws.specs.Scene.{Scene, parent_in, Has, Gives, StandsIn}
+use Rattle.pruning_laws.specs.TreePasses.{Holding, Occurs, Item, Triple, Value, agrees, holding, first_values, at_end, node_passes}
+use Rattle.pruning_laws.proofs.PassLaws.{GoOnce, OfEach, Balanced, first_pass-within, second_pass-within, two_passes-within, two_passes-balance}
+use Rattle.pruning_laws.proofs.ArcConsistent.{LiesWithin, IsSettled, GivesOne, IsTree, has_given, governs_same}
 use Rattle.pruning_laws.proofs.Keeping.{AreNeighbours, agrees-symmetric, end_elsewhere}
 
 module _ {V X : Type 0} (scene : Scene V X) where
@@ -98,7 +98,7 @@ module _ {V X : Type 0} (scene : Scene V X) where
 
   -- ---- pairs of a forest
 
-  of_each : (P : Member → Member → Type 0) (pairs : List (Member × Member)) (m n : Member) → OfEach P pairs → Contains pairs (m, n) → P m n
+  pub of_each : (P : Member → Member → Type 0) (pairs : List (Member × Member)) (m n : Member) → OfEach P pairs → Contains pairs (m, n) → P m n
   of_each P [] m n each at = absurd (Contains-nil (m, n) at)
   of_each P ((k, l) ∷ pairs) m n each at = elim (Contains-cons_cases (k, l) pairs (m, n) at) as (λ _. P m n) [
     | inl is ↦ subst (λ pair. P pair.0 pair.1) is each.0
@@ -159,8 +159,7 @@ module _ {V X : Type 0} (scene : Scene V X) where
   spread ((m, n) ∷ pairs) held p v j forward at h = elim (Contains-cons_cases (m, n) pairs (Pattern p, Variable v) at) as (λ _. HasPartner (agrees scene) (second_pass (agrees scene) ((m, n) ∷ pairs) held) (Variable v) (Pattern p) j) [
     | inl is ↦
         let found = h.1 (sym (ap (λ pair. pair.0) is)) in
-        let variable : n ≡ Variable v = ap (λ pair. pair.1) is in
-        (
+        let variable : n ≡ Variable v = ap (λ pair. pair.1) is in (
           found.0,
           (subst (λ n. second_pass (agrees scene) pairs held n found.0) variable found.1, λ e. absurd (not_first m n v forward.0 e)),
           subst (λ n. agrees scene n found.0 (Pattern p) j) variable found.2,
@@ -172,8 +171,7 @@ module _ {V X : Type 0} (scene : Scene V X) where
   pub cover_balances : (tree : IsTree scene) (k : ℕ) (pairs : List (Member × Member)) (all : Holding X) → IsCover k pairs → LiesWithin all (node_passes scene k pairs all) → AreBalanced all k pairs
   cover_balances tree k pairs all cover unchanged p v stands has matters =
       let held = holding all (first_values scene all k) in
-      let at = cover.all p v stands has matters in
-      (
+      let at = cover.all p v stands has matters in (
         λ j h. back j (gathered pairs held p v j cover.forward at (from_second pairs (first_pass (agrees scene) pairs held) (Variable v) j h)),
         λ j h. spread pairs (first_pass (agrees scene) pairs held) p v j cover.forward at h,
       ) where

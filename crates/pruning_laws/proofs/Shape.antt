@@ -1,23 +1,21 @@
 -- A scene that shows a connected tree is a tree, and matches give each variable one value; so what a round leaves as it
 -- is, reached by steps that keep every arc-consistent family, is the greatest consistent family.
-use Rattle.std.proofs.Common.{◌≡◌, ◌↔◌, ℕ, zero, suc, ◌<◌, ◌≤◌, List, length, map, Some, Contains, refl, sym, ◌∙◌, ap, subst, arith}
-use Rattle.std.specs.Prelude.{slice_get, slice_index}
-use Rattle.alg_model.specs.declared.pattern.TriplePat.{TriplePat}
+use Rattle.std.proofs.Common.{◌↔◌, ℕ, ◌<◌, List, length, map, Contains, refl, sym, subst, arith}
 use Rattle.alg_model.specs.Eval.{Interpretation}
 use Rattle.alg_model.specs.Pattern.{triple_vars}
 use Rattle.alg_model.proofs.Lists.{Contains-flat_map, source-flat_map}
 use Rattle.join_graph.specs.Members.{Member}
-use Rattle.pattern_tree.specs.Consistent.{TakesValue, IsGreatestConsistent}
-use Rattle.pattern_tree.specs.Standing.{StandsAt, OccursAt, IsWithin, IsConnected}
+use Rattle.pattern_tree.specs.Consistent.{IsGreatestConsistent}
+use Rattle.pattern_tree.specs.Standing.{StandsAt, OccursAt, IsConnected}
 use Rattle.pattern_tree.specs.Tree.{TreeNode}
 use Rattle.pattern_tree.proofs.Connected.{node_low}
 use Rattle.pattern_tree.proofs.Pruning.{Contains-map}
 use Rattle.pruning_laws.specs.Matches.{AreMatches}
-use Rattle.pruning_laws.specs.Scene.{Scene, node_of, parent_in, Has, Gives, IsAtOrAbove, StandsIn}
+use Rattle.pruning_laws.specs.Scene.{Scene, node_of, parent_in}
 use Rattle.pruning_laws.specs.Shown.{entry_of, shown}
-use Rattle.pruning_laws.specs.TreePasses.{Holding, tree_passes}
-use Rattle.pruning_laws.proofs.ArcConsistent.{listed, LiesWithin, IsArcConsistent, IsGreatest, GivesOne, Fits, HasHere, IsTree, above_low}
-use Rattle.pruning_laws.proofs.Bridge.{up, down, greatest_shown}
+use Rattle.pruning_laws.specs.TreePasses.{tree_passes}
+use Rattle.pruning_laws.proofs.ArcConsistent.{listed, LiesWithin, IsArcConsistent, GivesOne, Fits, HasHere, IsTree, above_low}
+use Rattle.pruning_laws.proofs.Bridge.{down, greatest_shown}
 use Rattle.pruning_laws.proofs.Settling.{IsEnough}
 use Rattle.pruning_laws.proofs.Shows.{Shows}
 use Rattle.pruning_laws.proofs.TreeRounds.{IsPlan, two_passes_are_enough, unchanged_is_consistent}
@@ -51,10 +49,10 @@ module _ {V X Y : Type 0} (interpretation : Interpretation V X) (tree : List Tre
         (connected.up k (parent_in scene k) (node_of scene p) v s.node s.stands (shows.hangs k s.node positive s.stands)
         (occurs_to k v (q, (low_q, refl), has_q)) (occurs_to (node_of scene p) v (p, (low_p, refl), has_p))
         (λ within.
-            let a = above_low scene shows.first k (node_of scene p) (down interpretation tree scene triple shows k (node_of scene p) within) in
-            let b = above_low scene shows.first (node_of scene p) (parent_in scene k) way in
-            let c = shows.first k positive in
-            omega (arith, a, b, c)));
+        let a = above_low scene shows.first k (node_of scene p) (down interpretation tree scene triple shows k (node_of scene p) within) in
+        let b = above_low scene shows.first (node_of scene p) (parent_in scene k) way in
+        let c = shows.first k positive in
+        omega (arith, a, b, c)));
   }
 
   pub gives_one : (lists : ℕ → List Y) → Fits scene (listed lists) → AreMatches interpretation tree (shown triple lists) → GivesOne scene (listed lists)

@@ -1,10 +1,10 @@
 -- A round: two passes over each node, from the root down. It keeps every arc-consistent family. On forests it leaves the
 -- greatest one; and on any tree, where it drops nothing, the family is arc consistent.
-use Rattle.std.proofs.Common.{◌≡◌, ◌≢◌, ◌↔◌, ◌⊎◌, inl, inr, ℕ, zero, suc, ◌<◌, ◌≤◌, List, length, refl, sym, ◌∙◌, subst, arith}
-use Rattle.std.proofs.lemmas.Bool.{cases_eq, cases_lt}
+use Rattle.std.proofs.Common.{◌≡◌, ◌⊎◌, inl, inr, ℕ, zero, suc, ◌<◌, ◌≤◌, List, length, sym, subst, arith}
+use Rattle.std.proofs.lemmas.Bool.{cases_eq}
 use Rattle.join_graph.specs.Members.{Member}
-use Rattle.pruning_laws.specs.Scene.{Scene, node_of}
-use Rattle.pruning_laws.specs.TreePasses.{Holding, node_passes, tree_passes}
+use Rattle.pruning_laws.specs.Scene.{Scene}
+use Rattle.pruning_laws.specs.TreePasses.{Holding, tree_passes}
 use Rattle.pruning_laws.proofs.PassLaws.{OfEach}
 use Rattle.pruning_laws.proofs.ArcConsistent.{listed, LiesWithin, IsArcConsistent, IsGreatest, IsSettled, GivesOne, Fits, IsTree}
 use Rattle.pruning_laws.proofs.Keeping.{AreNeighbours, node_keeps, node_passes-within, elsewhere}

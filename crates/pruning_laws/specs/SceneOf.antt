@@ -6,12 +6,9 @@ use Rattle.alg_model.specs.declared.pattern.Place.TheVariants as places
 use Rattle.alg_model.specs.declared.pattern.TriplePat.{TriplePat}
 use Rattle.alg_model.specs.Eval.{Interpretation}
 use Rattle.alg_model.specs.Pattern.{Algebra, Bgp, Join, LeftJoin, triple_patterns}
-use Rattle.join_graph.specs.Members.{Member}
 use Rattle.pattern_tree.specs.Solution.{Family}
 use Rattle.pattern_tree.specs.Tree.{moved_parent, nodes_below, tree_of}
 use Rattle.pruning_laws.specs.Scene.{Column, Scene}
-use Rattle.pruning_laws.specs.Shown.{entry_of}
-use Rattle.pruning_laws.specs.TreePasses.{Holding, tree_passes}
 
 -- a place that is a variable is a column
 abbrev pub place_columns : {V Y : Type 0} → Place → (Y → V) → List (Column V Y)

@@ -1,6 +1,6 @@
 -- Two passes over each node of a tree, from the root down. The members are the triple patterns and the variables of the
 -- node; a triple pattern holds items, and a variable values.
-use Rattle.std.specs.Prelude.{◌≡◌, ℕ, zero, suc, ◌<◌, Bool, false, List, length, slice_index, ◌==◌}
+use Rattle.std.specs.Prelude.{◌≡◌, ℕ, zero, suc, Bool, false, List, slice_index, ◌==◌}
 use Rattle.std.specs.Int.{bit_at}
 use Rattle.join_graph.specs.declared.steps.Step.TheVariants.{Pattern, Variable}
 use Rattle.join_graph.specs.Members.{Member}

@@ -9,9 +9,10 @@ ghost use Rattle.join_graph.specs.Members.{Member};
 ghost use Rattle.pattern_tree.specs.Consistent.{IsConsistent, IsPartOf, IsGreatestConsistent};
 ghost use Rattle.pattern_tree.specs.Solution.{Family};
 ghost use Rattle.pattern_tree.specs.Standing.{StandsAt};
-ghost use Rattle.pattern_tree.specs.Tree.{tree_of};
+ghost use Rattle.pattern_tree.specs.Tree.{TreeNode, tree_of};
 ghost use Rattle.pruning_laws.specs.Matches.{AreMatches};
 ghost use Rattle.pruning_laws.specs.Plans.{IsStripped, pairs_by, IsPlanOf, round_of};
+ghost use Rattle.pruning_laws.specs.Shown.{entry_of, AreLeftOf, TellItems};
 
 /// A round over a family: it adds no triple, and keeps each consistent family that is part of it. Where a family has
 /// each consistent part of the whole, and a round leaves it as it is, it is the greatest consistent family within the
@@ -36,6 +37,13 @@ pub fn two_passes_law<V, X>()
         IsWellDesigned pattern → PatternKeepsLimits n pattern → ((k : ℕ) → k < length (tree_of pattern) → IsStripped (tree_of pattern) k (sets k) (steps k)) →
         AreMatches interpretation (tree_of pattern) whole →
         ((k : ℕ) (part : TriplePat) (triple : X) → StandsAt (tree_of pattern) k part →
-            Contains (left part) triple ↔ round_of interpretation pattern (λ k. pairs_by (sets k) (steps k)) whole part triple) →
+        Contains (left part) triple ↔ round_of interpretation pattern (λ k. pairs_by (sets k) (steps k)) whole part triple) →
         IsGreatestConsistent interpretation (tree_of pattern) whole left }
+{}
+
+/// What is left of lists is one, where no two items of a list stand for one triple: so how many are left is determined.
+pub fn left_items_law<V, X, Y>()
+    ensures { (interpretation : Interpretation V X) (tree : List TreeNode) (triple : ℕ → Y → X) (whole left other : ℕ → List Y) → TellItems triple whole →
+        AreLeftOf interpretation tree triple whole left → AreLeftOf interpretation tree triple whole other →
+        (k : ℕ) (pattern : TriplePat) → StandsAt tree k pattern → left (entry_of pattern) ≡ other (entry_of pattern) }
 {}

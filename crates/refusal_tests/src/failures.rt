@@ -1,6 +1,6 @@
 //! Each call of a run fails in turn.
-use command_tests::{ANSWER, DATA, QUERY, Stage};
 use bm_world::WorldCall;
+use command_tests::{ANSWER, DATA, QUERY, Stage};
 use std::test::Fail;
 
 /// A call that is scheduled to fail, the status, and the line.

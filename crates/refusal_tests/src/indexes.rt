@@ -1,6 +1,6 @@
 //! Indexes that are loaded, asked and checked, and files that are none.
-use command_tests::{ANSWER, DATA, QUERY, Stage};
 use bm_world::WorldCall;
+use command_tests::{ANSWER, DATA, QUERY, Stage};
 use std::alloc::Global;
 use std::process::Abort;
 use std::test::Fail;
