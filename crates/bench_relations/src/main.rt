@@ -3,11 +3,10 @@
 //! What was found goes to the standard output, and the times to the standard error.
 #![tactic(auto)]
 
-ghost use Rattle.std.specs.Prelude.{◌≡◌, ◌*◌, ◌^◌, ◌<◌, ◌≤◌, length, IfOk};
+ghost use Rattle.std.specs.Prelude.{◌≡◌, ◌^◌, ◌≤◌, length, IfOk};
 ghost use Rattle.cube_slices.specs.Lines.{pairs_of};
 ghost use Rattle.mask_pool.specs.Mask.{words_for};
 ghost use Rattle.pattern_rel.specs.Folds.{CanFold, IsUsable, Keeps};
-ghost use Rattle.pattern_rel.specs.Shapes.{lines_of_shape};
 
 use byte_tables::{push_number, push_pair};
 use cube_slices::{SliceRef, check_slice};
@@ -216,7 +215,9 @@ fn time_asking(
     let walked = walk_at_random(rel, pool);
     let by_cursor = start.elapsed(rt)?;
     println!(rt; "{name}: {pairs} pairs in order, sum {sum}; at random {found} and {walked}")?;
-    eprintln!(rt; "{name}: a million calls of next in order {in_order:?}; a million rows at random: by two calls of next {at_random:?}, by the cursor {by_cursor:?}")
+    eprintln!(rt;
+        "{name}: a million calls of next in order {in_order:?}; a million rows at random: by two calls of next {at_random:?}, by the cursor {by_cursor:?}"
+    )
 }
 
 /// Cuts at both sides by a mask.
