@@ -3,11 +3,10 @@
 //! What was found goes to the standard output, and the times to the standard error.
 #![tactic(auto)]
 
-ghost use Rattle.std.specs.Prelude.{◌≡◌, ◌*◌, ◌^◌, ◌<◌, ◌≤◌, length, IfOk};
+ghost use Rattle.std.specs.Prelude.{◌≡◌, ◌^◌, ◌≤◌, length, IfOk};
 ghost use Rattle.cube_slices.specs.Lines.{pairs_of};
 ghost use Rattle.mask_pool.specs.Mask.{words_for};
 ghost use Rattle.pattern_rel.specs.Folds.{CanFold, IsUsable, Keeps};
-ghost use Rattle.pattern_rel.specs.Shapes.{lines_of_shape};
 
 use byte_tables::{push_number, push_pair};
 use cube_slices::{SliceRef, check_slice};
@@ -137,30 +136,57 @@ fn ask_in_order(rel: &PatRel<'_>, pool: &MaskPool, bound: Bound, times: u32) -> 
     (pairs, sum)
 }
 
-/// Asks for what is beside rows at random, by `next` or by the cursor.
-fn ask_at_random(rel: &PatRel<'_>, pool: &MaskPool, by_cursor: bool) -> u32
+/// The row to ask for after this one, and what it is made of.
+fn next_row(state: u32) -> (u32, u32) {
+    let state = state.wrapping_mul(1_664_525).wrapping_add(1_013_904_223);
+    (state, (state >> 12) & !1)
+}
+
+/// Asks for what is beside rows at random, by two calls of `next`.
+fn ask_at_random(rel: &PatRel<'_>, pool: &MaskPool) -> u32
     requires first { IsUsable pool.now rel.now.first }
     requires second { IsUsable pool.now rel.now.second }
 {
-    let mut n = 1u32;
+    let mut state = 1u32;
     let mut found = 0u32;
     for _ in 0..1_000_000u32 {
-        n = n.wrapping_mul(1_664_525).wrapping_add(1_013_904_223);
-        let row = (n >> 12) & !1;
-        if by_cursor {
-            for _ in rel.beside(pool, row) {
-                found = found.wrapping_add(1);
-            }
-        } else {
-            let bound = Bound {
-                first: Some(row),
-                second: None,
-            };
-            let next = rel.next(pool, bound, None);
-            if rel.next(pool, bound, next).is_some() {
-                found = found.wrapping_add(2);
-            }
+        let (after, row) = next_row(state);
+        state = after;
+        let bound = Bound {
+            first: Some(row),
+            second: None,
+        };
+        let next = rel.next(pool, bound, None);
+        if rel.next(pool, bound, next).is_some() {
+            found = found.wrapping_add(2);
         }
+    }
+    found
+}
+
+/// How many numbers are left beside a row, by the cursor.
+fn count_beside(rel: &PatRel<'_>, pool: &MaskPool, row: u32) -> u32
+    requires first { IsUsable pool.now rel.now.first }
+    requires second { IsUsable pool.now rel.now.second }
+{
+    let mut found = 0u32;
+    for _ in rel.beside(pool, row) {
+        found = found.wrapping_add(1);
+    }
+    found
+}
+
+/// The same for the same rows by the cursor.
+fn walk_at_random(rel: &PatRel<'_>, pool: &MaskPool) -> u32
+    requires first { IsUsable pool.now rel.now.first }
+    requires second { IsUsable pool.now rel.now.second }
+{
+    let mut state = 1u32;
+    let mut found = 0u32;
+    for _ in 0..1_000_000u32 {
+        let (after, row) = next_row(state);
+        state = after;
+        found = found.wrapping_add(count_beside(&*rel, &*pool, row));
     }
     found
 }
@@ -183,13 +209,15 @@ fn time_asking(
     let (pairs, sum) = ask_in_order(rel, pool, bound, 1_000_000);
     let in_order = start.elapsed(rt)?;
     let start = Instant::now(rt)?;
-    let found = ask_at_random(rel, pool, false);
+    let found = ask_at_random(rel, pool);
     let at_random = start.elapsed(rt)?;
     let start = Instant::now(rt)?;
-    let walked = ask_at_random(rel, pool, true);
+    let walked = walk_at_random(rel, pool);
     let by_cursor = start.elapsed(rt)?;
     println!(rt; "{name}: {pairs} pairs in order, sum {sum}; at random {found} and {walked}")?;
-    eprintln!(rt; "{name}: a million calls of next in order {in_order:?}; a million rows at random: by two calls of next {at_random:?}, by the cursor {by_cursor:?}")
+    eprintln!(rt;
+        "{name}: a million calls of next in order {in_order:?}; a million rows at random: by two calls of next {at_random:?}, by the cursor {by_cursor:?}"
+    )
 }
 
 /// Cuts at both sides by a mask.

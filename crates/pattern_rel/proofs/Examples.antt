@@ -1,8 +1,6 @@
 -- Worked examples of the definitions.
-use Rattle.std.proofs.Common.{◌≡◌, ℕ, List, [], ◌∷◌, Option, Some, None, filter, find, refl}
+use Rattle.std.proofs.Common.{◌≡◌, ℕ, List, [], ◌∷◌, Some, None, filter, find, refl}
 use Rattle.cube_slices.specs.Lines.{Line, pairs_of}
-use Rattle.pattern_rel.specs.declared.bound.Bound.{Bound}
-use Rattle.pattern_rel.specs.declared.bound.Pair.{Pair}
 use Rattle.pattern_rel.specs.declared.side.Side.TheVariants.{First}
 use Rattle.pattern_rel.specs.Shapes.{row_lines, column_lines, diagonal_lines}
 use Rattle.pattern_rel.specs.Left.{left_in}

@@ -7,7 +7,7 @@ use Rattle.mask_pool.specs.Mask.{Stretch, words_for, DoNotOverlap}
 use Rattle.mask_pool.specs.Region.{Region, words_of}
 use Rattle.mask_pool.proofs.Loans.{length-words_of}
 use Rattle.cube_slices.specs.Lines.{Line, LinesAscend, pairs_of}
-use Rattle.cube_slices.specs.Folds.{IsRowKept}
+use Rattle.cube_slices.specs.Folds.{IsRowKept, IsColumnKept}
 use Rattle.pattern_rel.specs.Left.{Relation, pairs_left, is_left}
 use Rattle.pattern_rel.specs.Shapes.{row_lines, row_of}
 use Rattle.pattern_rel.specs.Folds.{IsUsable, CanFold, Keeps}
@@ -74,6 +74,13 @@ pub row_kept : (rows columns : ℕ) (keep : List ℕ) (ls : List Line) → Lines
 row_kept rows columns keep ls ascend n = (
   λ (c, there, has). (c, (Contains-pairs_of 0 rows columns ls n c ascend).0 there, has),
   λ (c, there, has). (c, (Contains-pairs_of 0 rows columns ls n c ascend).1 there, has),
+)
+
+-- a column is kept where it stands beside a row
+pub column_kept : (rows columns : ℕ) (keep : List ℕ) (ls : List Line) → LinesAscend 0 rows columns ls → (c : ℕ) → IsColumnKept keep ls c ↔ IsBeside keep ls c
+column_kept rows columns keep ls ascend c = (
+  λ (n, there, has). (n, has, (Contains-pairs_of 0 rows columns ls n c ascend).0 there),
+  λ (n, has, there). (n, (Contains-pairs_of 0 rows columns ls n c ascend).1 there, has),
 )
 
 -- the numbers of a row, where 0 stands beside them and is met

@@ -4,7 +4,7 @@ ghost use Rattle.std.specs.Prelude.{◌≡◌, ◌↔◌, ◌⊎◌, ℕ, ◌*�
 ghost use Rattle.row_lanes.specs.Words.{Has, Meets};
 ghost use Rattle.mask_pool.specs.Mask.{Stretch, words_for, DoNotOverlap};
 ghost use Rattle.mask_pool.specs.Region.{words_of};
-ghost use Rattle.cube_slices.specs.Folds.{IsRowKept};
+ghost use Rattle.cube_slices.specs.Folds.{IsColumnKept, IsRowKept};
 ghost use Rattle.pattern_rel.specs.Shapes.{lines_of_shape, row_of};
 ghost use Rattle.pattern_rel.specs.Folds.{IsUsable, Keeps};
 ghost use Rattle.pattern_rel.specs.steps.Sets.{IsBeside};
@@ -94,6 +94,19 @@ pub fn rows_mask(pool: &mut MaskPool, into: Mask, slice: &SliceRef<'_>, seconds:
 {
     let (words, keep) = pool.pair(into, seconds);
     slice.fold_rows(keep, words);
+}
+
+/// Makes a mask the columns of a slice that have a row in `firsts`. It goes by the rows.
+#[tactic(auto, using(mask_pool::proofs::Loans::loans))]
+pub fn columns_mask(pool: &mut MaskPool, into: Mask, slice: &SliceRef<'_>, firsts: Mask)
+    requires into { IsUsable pool.old into }
+    requires firsts { IsUsable pool.old firsts }
+    requires apart { DoNotOverlap into firsts }
+    ensures kept { (c : ℕ) → Has (words_of pool.new into) c ↔ (IsColumnKept (words_of pool.old firsts) slice.now c × (c < 64 * words_for into.bits)) }
+    ensures keeps { Keeps pool.old pool.new into }
+{
+    let (words, keep) = pool.pair(into, firsts);
+    slice.fold_columns(keep, words);
 }
 
 /// Leaves in a mask the numbers that have a partner in `seconds`. It goes by the members of the mask.

@@ -101,7 +101,7 @@ impl<'a> PatRel<'a> {
 
     /// The numbers left beside `n` on the other side, one after the other: those of the pairs left with the first number
     /// `n`.
-    pub fn beside<'s>(&'s self, pool: &'s MaskPool, n: u32) -> RowLeft<'s, 'a>
+    pub fn beside<'s>(&self, pool: &'s MaskPool, n: u32) -> RowLeft<'s, 'a>
         requires first { IsUsable pool.now self.now.first }
         requires second { IsUsable pool.now self.now.second }
         ensures { result ≡ seconds_beside n (pairs_left pool.now self.now) }

@@ -9,8 +9,8 @@ ghost use Rattle.pattern_rel.specs.Folds.{CanFold, IsBelow, IsUsable, Keeps};
 ghost use Rattle.pattern_rel.specs.steps.Sets.{IsBeside};
 
 use crate::pools::{
-    add_to_mask, and_mask, clear_mask, copy_mask, cut_mask, gather_mask, retain_mask, row_mask,
-    rows_mask,
+    add_to_mask, and_mask, clear_mask, columns_mask, copy_mask, cut_mask, gather_mask, retain_mask,
+    row_mask, rows_mask,
 };
 use crate::shape::Shape;
 use crate::walk::open_next;
@@ -90,8 +90,7 @@ pub fn fold_side(pool: &mut MaskPool, shape: &Shape<'_>, own: Mask, other: Mask,
     }
 }
 
-/// Makes `into` the numbers of `second` that stand beside a number of `first`, by the numbers of `first` or the rows,
-/// whichever are fewer.
+/// Makes `into` the numbers of `second` that stand beside a number of `first`, by the numbers of `first`.
 #[tactic(auto, using(crate::proofs::MaskLaws::kept))]
 fn fold_gathered(pool: &mut MaskPool, shape: &Shape<'_>, first: Mask, second: Mask, into: Mask)
     requires can { CanFold pool.old first second into }
@@ -101,6 +100,19 @@ fn fold_gathered(pool: &mut MaskPool, shape: &Shape<'_>, first: Mask, second: Ma
 {
     clear_mask(pool, into);
     gather_mask(pool, into, shape, first);
+    and_mask(pool, into, second);
+}
+
+/// The same of all pairs of a slice, by its rows.
+#[tactic(auto, using(crate::proofs::MaskLaws::kept))]
+fn fold_columns(pool: &mut MaskPool, slice: &SliceRef<'_>, first: Mask, second: Mask, into: Mask)
+    requires can { CanFold pool.old first second into }
+    requires room { words_for second.bits ≤ words_for into.bits }
+    ensures folded { (c : ℕ) → Has (words_of pool.new into) c ↔ (Has (words_of pool.old second) c × IsBeside (words_of pool.old first) slice.now c) }
+    ensures keeps { Keeps pool.old pool.new into }
+{
+    slice.rows();
+    columns_mask(pool, into, slice, first);
     and_mask(pool, into, second);
 }
 
@@ -132,7 +144,13 @@ pub fn fold_across(pool: &mut MaskPool, shape: &Shape<'_>, first: Mask, second: 
         Shape::Ground => fold_to_zero(pool, shape, first, second, into),
         Shape::OneRow(_) => fold_to_zero(pool, shape, first, second, into),
         Shape::Column { .. } => fold_to_zero(pool, shape, first, second, into),
-        Shape::Pairs { .. } => fold_gathered(pool, shape, first, second, into),
+        Shape::Pairs { rows, .. } => {
+            if is_sparse(pool.read(first), rows) {
+                fold_gathered(pool, shape, first, second, into);
+            } else {
+                fold_columns(pool, rows, first, second, into);
+            }
+        }
         Shape::Diagonal { .. } => fold_gathered(pool, shape, first, second, into),
     }
 }

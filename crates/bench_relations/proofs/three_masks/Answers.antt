@@ -1,4 +1,4 @@
-use Rattle.std.proofs.Common.{◌^◌, arith}
+use Rattle.std.proofs.Common.{arith}
 use Rattle.bench_relations.proofs.three_masks.Goals as goal
 
 pub returns-clause-can : goal.returns-clause-can

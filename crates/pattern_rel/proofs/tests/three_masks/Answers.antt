@@ -1,4 +1,4 @@
-use Rattle.std.proofs.Common.{◌^◌, arith}
+use Rattle.std.proofs.Common.{arith}
 use Rattle.pattern_rel.proofs.tests.three_masks.Goals as goal
 
 pub returns-clause-can : goal.returns-clause-can
