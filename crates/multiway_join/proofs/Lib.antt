@@ -1,0 +1,7 @@
+pub mod Complete
+pub mod Ends
+pub mod FlatLaws
+pub mod Nodes
+pub mod OneOrder
+pub mod Same
+pub mod Sound
