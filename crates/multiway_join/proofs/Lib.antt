@@ -1,5 +1,6 @@
 pub mod Complete
 pub mod Ends
+pub mod Examples
 pub mod FlatLaws
 pub mod Nodes
 pub mod OneOrder
