@@ -1,0 +1,8 @@
+//! The flat join of a tree of patterns: its rows, the order in which it takes the triple patterns, and their laws.
+//! `flat_rows_law` says that the flat rows are rows of partial solutions, among them all maximal ones, and
+//! `join_order_law` that a tree has one join order.
+#![tactic(auto)]
+
+mod laws;
+
+pub use laws::{flat_rows_law, join_order_law};
