@@ -1,6 +1,7 @@
 //! The answers of the text of a query over an open index, or why there are none.
-ghost use Rattle.std.specs.Prelude.{◌≡◌, length, IfSome};
+ghost use Rattle.std.specs.Prelude.{◌≡◌, length, None, IfSome};
 ghost use Rattle.bm_query.specs.Faults.{fault_of};
+ghost use Rattle.bm_query.specs.declared.fault.AnswerFault.TheVariants.{Memory};
 ghost use Rattle.well_designed.specs.Computed.{NamesBelow};
 ghost use Rattle.well_designed.specs.declared.refusals.Refusal.{Refusal};
 ghost use Rattle.bm_top.specs.steps.Over.{IsAnswered, NamesFault};
@@ -53,7 +54,8 @@ fn unanswered(alloc: Global, names: &Names, fault: AnswerFault) -> Undecided
 
 /// The refusal that a fault is, if it is not one of memory.
 fn refusal_of_fault(fault: AnswerFault) -> Option<Refusal>
-    ensures { IfSome result (λ refusal. fault ≡ fault_of refusal) }
+    ensures refusal { IfSome result (λ refusal. fault ≡ fault_of refusal) }
+    ensures memory { result ≡ None → fault ≡ Memory }
 {
     match fault {
         AnswerFault::NotWellDesigned { optional, var } => {
