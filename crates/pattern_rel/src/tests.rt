@@ -79,6 +79,33 @@ fn the_worked_relation(rt: HostRuntime) -> Result<(), Fail> {
     Ok(())
 }
 
+/// The last row of the table: of the same pairs those are kept that begin with 1.
+#[test]
+#[tactic(auto, using(crate::proofs::MaskLaws::folds))]
+fn the_worked_relation_from_one(rt: HostRuntime) -> Result<(), Fail> {
+    let mut bytes = Vec::new(rt.alloc());
+    encode_slice(rt.alloc(), RowForm::V1, &[(0, 1), (1, 0)], &mut bytes)?;
+    let slice = check_slice(RowForm::V1, &bytes, 2, 2).ok_or("a slice")?;
+    let (mut pool, first, second, third) = three_masks(rt.alloc(), 2)?;
+    let shape = Shape::Pairs {
+        rows: slice,
+        columns: None,
+    };
+    let rel = PatRel::new(shape, first, second);
+    put(&mut pool, third, 2);
+    rel.unfold(&mut pool, Side::First, third, None);
+    let bound = Bound {
+        first: None,
+        second: None,
+    };
+    let pair = Pair {
+        first: 1,
+        second: 0,
+    };
+    assert_eq!(rt; rel.next(&pool, bound, None), Some(pair));
+    Ok(())
+}
+
 /// Whether a matrix of four by four bits has the pair.
 fn has_pair(matrix: u32, n: u32, c: u32) -> bool {
     (matrix >> (n.wrapping_mul(4).wrapping_add(c) % 16)) % 2 == 1
