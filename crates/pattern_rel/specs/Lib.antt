@@ -2,5 +2,4 @@ pub mod Shapes
 pub mod Left
 pub mod Folds
 pub mod Bounds
-pub mod Prepared
 pub mod steps

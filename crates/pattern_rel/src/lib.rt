@@ -13,7 +13,6 @@ mod folds;
 mod next;
 mod partners;
 mod pools;
-mod prepared;
 mod relation;
 mod sets;
 mod shape;
@@ -23,7 +22,6 @@ mod walk;
 
 pub use bound::{Bound, Pair};
 pub use cursor::{PairsLeft, RowLeft};
-pub use prepared::{Entry, EntryList, MaskList, PlaceKind, Prepared, SidePlace};
 pub use relation::PatRel;
 pub use shape::Shape;
 pub use side::Side;

@@ -3,9 +3,9 @@
 ghost use Rattle.std.specs.Prelude.{◌≡◌, ◌+◌, ◌-◌, ◌<◌, ◌≤◌, [], ◌∷◌, ◌++◌, ◌==◌, length, slice_get, Some, OnErr, OnOk};
 ghost use Rattle.std.specs.Option.{option_map};
 
-use crate::relation::PatRel;
 use alg_model::Var;
 use mask_pool::{Mask, MaskPool};
+use pattern_rel::PatRel;
 use std::alloc::{AllocError, Global};
 use std::marker::Model;
 
@@ -40,7 +40,7 @@ pub struct EntryList<'a> {
 
 impl<'a> Model for EntryList<'a> {
     ghost use Rattle.std.specs.Prelude.{List};
-    ghost use Rattle.pattern_rel.specs.declared.prepared.Entry.{Entry};
+    ghost use Rattle.tree_relations.specs.declared.prepared.Entry.{Entry};
 
     ghost Value = { List Entry };
 
@@ -148,7 +148,7 @@ impl MaskList {
 
 /// A relation for each pattern, with all masks in one pool. The entry of pattern number k stands at place k − 1. `work`
 /// has a mask for each variable number from 0 to the greatest, and one more. The counts are those of the index: of the
-/// terms that are subjects and objects, of subjects, of objects, and of predicates.
+/// terms that are subjects and objects, of those that are subjects alone, of those that are objects alone, and of predicates.
 #[derive(Debug, Drop)]
 pub struct Prepared<'a> {
     pub pool: MaskPool,

@@ -5,23 +5,23 @@ use Rattle.mask_pool.specs.Mask.{Stretch, DoNotOverlap}
 use Rattle.cube_slices.specs.Lines.{pairs_of}
 use Rattle.pattern_rel.specs.declared.side.Side.{Side}
 use Rattle.pattern_rel.specs.declared.side.Side.TheVariants.{First, Second}
-use Rattle.pattern_rel.specs.declared.prepared.PlaceKind.{PlaceKind}
-use Rattle.pattern_rel.specs.declared.prepared.PlaceKind.TheVariants.{Subject, Object, Predicate}
-use Rattle.pattern_rel.specs.declared.prepared.SidePlace.{SidePlace}
-use Rattle.pattern_rel.specs.declared.prepared.Entry.{Entry}
-use Rattle.pattern_rel.specs.declared.prepared.Prepared.{Prepared}
+use Rattle.tree_relations.specs.declared.prepared.PlaceKind.{PlaceKind}
+use Rattle.tree_relations.specs.declared.prepared.PlaceKind.TheVariants.{Subject, Object, Predicate}
+use Rattle.tree_relations.specs.declared.prepared.SidePlace.{SidePlace}
+use Rattle.tree_relations.specs.declared.prepared.Entry.{Entry}
+use Rattle.tree_relations.specs.declared.prepared.Prepared.{Prepared}
 use Rattle.pattern_rel.specs.Left.{IsAtSide}
 use Rattle.pattern_rel.specs.Folds.{IsUsable}
 
--- how many numbers a place of this kind can have
+-- how many numbers a place of this kind can have: the shared terms count among the subjects and among the objects
 abbrev pub count_of : Prepared → PlaceKind → ℕ
-count_of p Subject = p.subjects
-count_of p Object = p.objects
+count_of p Subject = p.shared + p.subjects
+count_of p Object = p.shared + p.objects
 count_of p Predicate = p.predicates
 
 -- how many bits a working mask has: as many as the places of some kind have numbers
 abbrev pub work_bits : Prepared → ℕ
-work_bits p = max p.subjects (max p.objects p.predicates)
+work_bits p = max (count_of p Subject) (max (count_of p Object) (count_of p Predicate))
 
 -- the numbers at a side are below the count of its place, and its variable has a working mask that is not the last one
 abbrev pub FitsPlace : Prepared → Side → Entry → Option SidePlace → Type 0
@@ -48,8 +48,8 @@ pub record FitsEntry (p : Prepared) (e : Entry) : Type 0 where
 abbrev pub masks_of : Prepared → List Stretch
 masks_of p = p.work ++ flat_map (λ e. e.rel.first ∷ e.rel.second ∷ []) p.entries
 
--- What is prepared fits together. A tree fits it where there is one entry for each of its patterns, with the variables and
--- kinds of that pattern's places, and a working mask for each variable up to the greatest and one more.
+-- what is prepared fits together: the numbers of the relations are within the counts, the masks have room for them, and
+-- no two masks overlap
 pub record FitsTogether (p : Prepared) : Type 0 where
   pub counts : p.shared + p.subjects + p.objects + p.predicates < 2 ^ 30
   pub work : All (λ m. m.bits ≡ work_bits p) p.work
