@@ -1,12 +1,11 @@
 -- Laws of texts and triples in the order of first sight.
-use Rattle.std.proofs.Common.{◌≡◌, ℕ, zero, suc, ◌⊎◌, inl, inr, Bool, true, false, bytes_eq, List, [], ◌∷◌, ◌++◌, Some, if◌then◌else◌, Contains, map, refl, sym, ◌∙◌, ap, subst, append_assoc, append-nil, length-append, arith, ◌<◌, length, get_or, All, Result, Ok, Err, IfOk}
+use Rattle.std.proofs.Common.{◌≡◌, ℕ, zero, suc, ◌⊎◌, inl, inr, Bool, true, false, bytes_eq, List, [], ◌∷◌, ◌++◌, Some, if◌then◌else◌, Contains, map, refl, sym, ◌∙◌, ap, subst, append_assoc, append-nil, length-append, arith, ◌<◌, length, get_or, All}
 use Rattle.std.proofs.lemmas.List.{get_or_append_left}
 use Rattle.std.proofs.lemmas.List.Elements.{All-head, All-tail, All-weaker, Contains-push_cases}
-use Rattle.std.proofs.lemmas.List.Quantifiers.{position-Some}
 use Rattle.std.proofs.lemmas.Map.Keys.{IsDistinct-push}
 use Rattle.std.proofs.lemmas.Option.{slice_get-get_or, get_or_from_slice_get}
 use Rattle.std.specs.Cmp.Lexicographic.{same_text, nat_list_eq_equiv}
-use Rattle.std.specs.List.{slice_get, list_any, position, IsDistinct}
+use Rattle.std.specs.List.{slice_get, list_any, IsDistinct}
 use Rattle.indexmap.specs.IndexSet.{insert_key}
 use Rattle.bm_term.specs.declared.triple.Triple.{Triple}
 use Rattle.bm_term.specs.Graph.{graph_of}
