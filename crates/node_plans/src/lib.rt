@@ -1,0 +1,16 @@
+//! Which pairs the passes of pruning take at a node of a tree of patterns. Nothing here takes memory.
+//!
+//! [`node_sets`] gives the sets of variables of the node's triple patterns. Where patterns and variables form a forest,
+//! [`node_pairs`] gives the pairs of the removal of its members, else all edges of the node. [`all_forests`] says whether
+//! each node of a tree is a forest, so that one round of pruning is enough.
+#![tactic(auto)]
+
+
+mod pairs;
+
+
+
+
+pub use pairs::NodePairs;
+
+
