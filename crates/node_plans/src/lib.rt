@@ -5,12 +5,10 @@
 //! each node of a tree is a forest, so that one round of pruning is enough.
 #![tactic(auto)]
 
-
+mod edges;
 mod pairs;
-
-
-
+mod removal;
+mod sets;
 
 pub use pairs::NodePairs;
-
-
+pub use sets::{NodeSets, node_sets};
