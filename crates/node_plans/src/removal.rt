@@ -28,6 +28,7 @@ pub(crate) fn removal_pairs(sets: &[u64], order: &Order) -> NodePairs
 
 /// The first that is near the i-th, of those that are removed after it.
 fn partner_of(sets: &[u64], order: &Order, i: u16) -> Option<Step>
+    requires few { length order.now.steps ≤ 320 }
     requires step { i < length order.now.steps }
     requires in_range { (m : Member) → Contains order.now.steps m → IsInRange (length sets.now) m }
     ensures { (d : Member) → result ≡ partner (are_near sets.now (slice_index_or order.now.steps i d)) (drop (i + 1) order.now.steps) }

@@ -1,0 +1,85 @@
+-- Edges of triple patterns, one after the other, and the sets that they make.
+use Rattle.std.proofs.Common.{◌≡◌, ◌↔◌, ◌⊎◌, inl, inr, ℕ, ◌+◌, ◌<◌, ◌≤◌, ◌++◌, List, [], ◌∷◌, length, set, take, get_or, map, flat_map, bit_or, Some, Contains, refl, sym, ◌∙◌, ap, subst, arith}
+use Rattle.std.specs.Prelude.{slice_get, slice_index}
+use Rattle.std.proofs.lemmas.Bool.{cases_eq, cases_lt}
+use Rattle.std.proofs.lemmas.List.{take_more, get_or-set_same, get_or-set_other, get_or-take, get_or_past}
+use Rattle.std.proofs.lemmas.List.Elements.{Contains-append_left, Contains-push, Contains-push_cases}
+use Rattle.alg_model.specs.declared.pattern.TriplePat.{TriplePat}
+use Rattle.alg_model.specs.Pattern.{triple_vars}
+use Rattle.alg_model.specs.VarSet.{HoldsJust}
+use Rattle.bm_term.proofs.Elements.{Contains-nil}
+use Rattle.join_graph.specs.Members.{HasVariable, PatternHas}
+use Rattle.join_graph.proofs.Bits.{HasVariable-zero, HasVariable-or}
+use Rattle.node_plans.specs.Placed.{HasEdge}
+use Rattle.pruning_laws.specs.Shown.{entry_of}
+
+-- no triple pattern has no edge
+pub no_edge : (p v : ℕ) → HasEdge [] p v → ⊥
+no_edge p v edge = Contains-nil edge.pattern edge.among
+
+-- one triple pattern more has its own edges more
+pub one_more : (patterns : List TriplePat) (one : TriplePat) (p v : ℕ) →
+    HasEdge (patterns ++ one ∷ []) p v ↔ (HasEdge patterns p v ⊎ ((entry_of one ≡ p) × Contains (triple_vars one) v))
+one_more patterns one p v = (
+  λ edge. elim (Contains-push_cases patterns one edge.pattern edge.among) as (λ _. HasEdge patterns p v ⊎ ((entry_of one ≡ p) × Contains (triple_vars one) v)) [
+    | inl before ↦ inl (record { pattern = edge.pattern; among = before; entry = edge.entry; has = edge.has })
+    | inr is ↦ inr (ap entry_of is ∙ edge.entry, subst (λ pattern. Contains (triple_vars pattern) v) (sym is) edge.has)
+  ],
+  λ either. elim either as (λ _. HasEdge (patterns ++ one ∷ []) p v) [
+    | inl edge ↦ record { pattern = edge.pattern; among = Contains-append_left patterns (one ∷ []) edge.pattern edge.among; entry = edge.entry; has = edge.has }
+    | inr own ↦ record { pattern = one; among = Contains-push patterns one; entry = own.0; has = own.1 }
+  ],
+)
+
+-- a set with the variables of a word more
+more_variables : (sets : List ℕ) (place word p v : ℕ) → place < length sets →
+    PatternHas (set sets place (bit_or (slice_index sets place) word)) p v ↔ (PatternHas sets p v ⊎ ((place ≡ p) × HasVariable word v))
+more_variables sets place word p v low = elim (cases_eq p place) as (λ _. PatternHas (set sets place (bit_or (slice_index sets place) word)) p v ↔ (PatternHas sets p v ⊎ ((place ≡ p) × HasVariable word v))) [
+  | inl is ↦
+      let here = get_or-set_same sets place (bit_or (slice_index sets place) word) 0 low in
+      let either = HasVariable-or (slice_index sets place) word v in
+      subst (λ p. PatternHas (set sets place (bit_or (slice_index sets place) word)) p v ↔ (PatternHas sets p v ⊎ ((place ≡ p) × HasVariable word v))) (sym is) (
+        λ has. elim (either.0 (subst (λ set. HasVariable set v) here has)) as (λ _. PatternHas sets place v ⊎ ((place ≡ place) × HasVariable word v)) [ inl old ↦ inl old | inr new ↦ inr (refl, new) ],
+        λ has. subst (λ set. HasVariable set v) (sym here) (either.1 (elim has as (λ _. HasVariable (slice_index sets place) v ⊎ HasVariable word v) [ inl old ↦ inl old | inr new ↦ inr new.1 ])),
+      )
+  | inr other ↦
+      let there = get_or-set_other sets place p (bit_or (slice_index sets place) word) 0 other in (
+        λ has. inl (subst (λ set. HasVariable set v) there has),
+        λ has. elim has as (λ _. PatternHas (set sets place (bit_or (slice_index sets place) word)) p v) [ inl old ↦ subst (λ set. HasVariable set v) (sym there) old | inr new ↦ absurd (other (sym new.0)) ],
+      )
+]
+
+-- the sets of some triple patterns
+abbrev pub AreSetsAmong : List TriplePat → List ℕ → Type 0
+AreSetsAmong patterns sets = (p v : ℕ) → PatternHas sets p v ↔ HasEdge patterns p v
+
+-- empty sets are those of no triple pattern
+pub sets_start : (sets : List ℕ) → ((p : ℕ) → slice_index sets p ≡ 0) → AreSetsAmong [] sets
+sets_start sets none p v = (λ has. absurd (HasVariable-zero v (subst (λ set. HasVariable set v) (none p) has)), λ edge. absurd (no_edge p v edge))
+
+-- and with the variables of one more they are those of one more
+pub sets_more : (patterns : List TriplePat) (i : ℕ) (one : TriplePat) (sets : List ℕ) (place word : ℕ) → AreSetsAmong (take i patterns) sets → i < length patterns → get_or patterns i one ≡ one →
+    entry_of one ≡ place → HoldsJust word (triple_vars one) → place < length sets → AreSetsAmong (take (i + 1) patterns) (set sets place (bit_or (slice_index sets place) word))
+sets_more patterns i one sets place word are within is entry just low p v =
+    let front : take (i + 1) patterns ≡ take i patterns ++ one ∷ [] = take_more patterns i one within ∙ ap (λ x. take i patterns ++ x ∷ []) is in
+    let more = more_variables sets place word p v low in
+    let edges = one_more (take i patterns) one p v in
+    let both : PatternHas (set sets place (bit_or (slice_index sets place) word)) p v ↔ HasEdge (take i patterns ++ one ∷ []) p v = (
+      λ has. edges.1 (elim (more.0 has) as (λ _. HasEdge (take i patterns) p v ⊎ ((entry_of one ≡ p) × Contains (triple_vars one) v)) [ inl old ↦ inl ((are p v).0 old) | inr new ↦ inr (entry ∙ new.0, (just v).0 new.1) ]),
+      λ edge. more.1 (elim (edges.0 edge) as (λ _. PatternHas sets p v ⊎ ((place ≡ p) × HasVariable word v)) [ inl old ↦ inl ((are p v).1 old) | inr new ↦ inr (sym entry ∙ new.0, (just v).1 new.1) ]),
+    ) in
+    subst (λ patterns. PatternHas (set sets place (bit_or (slice_index sets place) word)) p v ↔ HasEdge patterns p v) (sym front) both
+
+-- sets without those past the last place are the same
+pub sets_cut : (sets : List ℕ) (n p v : ℕ) → (PatternHas sets p v → p < n) → PatternHas (take n sets) p v ↔ PatternHas sets p v
+sets_cut sets n p v last = elim (cases_lt p n) as (λ _. PatternHas (take n sets) p v ↔ PatternHas sets p v) [
+  | inl low ↦
+      let here = get_or-take n sets p 0 low in
+      (λ has. subst (λ set. HasVariable set v) here has, λ has. subst (λ set. HasVariable set v) (sym here) has)
+  | inr past ↦ (
+    λ has. absurd (HasVariable-zero v (subst (λ set. HasVariable set v) (get_or_past (take n sets) p 0 (omega (arith, past_end sets n))) has)),
+    λ has. let low = last has in absurd (omega arith),
+  )
+] where
+  past_end : (sets : List ℕ) (n : ℕ) → length (take n sets) ≤ n
+  past_end sets n = omega arith
