@@ -1,9 +1,11 @@
 -- The triple patterns of a tree keep the limits of a query.
-use Rattle.std.proofs.Common.{◌≡◌, ◌+◌, ◌<◌, ◌≤◌, ◌++◌, ℕ, zero, suc, inl, inr, List, [], ◌∷◌, length, map, Some, None, All, Contains, refl, sym, ap, subst, arith}
+use Rattle.std.proofs.Common.{◌≡◌, ◌+◌, ◌<◌, ◌≤◌, ◌++◌, ℕ, zero, suc, inl, inr, List, [], ◌∷◌, length, map, Some, None, get_or, All, Contains, refl, sym, ◌∙◌, ap, subst, arith}
 use Rattle.std.specs.Prelude.{slice_get}
+use Rattle.std.specs.Option.{option_map}
 use Rattle.std.proofs.Math.Bridge.{le_prop}
 use Rattle.std.proofs.Math.Logic.{∥∥₁_elim}
 use Rattle.std.proofs.lemmas.List.{length-append}
+use Rattle.std.proofs.lemmas.Option.{slice_get-get_or}
 use Rattle.std.proofs.lemmas.List.Elements.{All-contains, Contains-append_cases}
 use Rattle.alg_model.specs.declared.pattern.Place.{Place}
 use Rattle.alg_model.specs.declared.pattern.Place.TheVariants as places
@@ -12,10 +14,11 @@ use Rattle.alg_model.specs.Limits.{max_variables, PatternKeepsLimits}
 use Rattle.alg_model.specs.Pattern.{Algebra, Bgp, Join, LeftJoin, triple_patterns}
 use Rattle.alg_model.specs.VarSet.{PlaceFits, TripleFits, PatternFits}
 use Rattle.alg_model.proofs.VarSets.{pattern_fits}
-use Rattle.node_plans.specs.Placed.{IsPlaced}
+use Rattle.node_plans.specs.Placed.{IsPlaced, HasEdge}
 use Rattle.pattern_tree.specs.PatternTree.{IsPatternTree}
 use Rattle.pattern_tree.specs.Standing.{StandsAt}
 use Rattle.pattern_tree.specs.Tree.{TreeNode, root_patterns, moved, hung, nodes_below, tree_of}
+use Rattle.pruning_laws.specs.Plans.{IsEdge}
 use Rattle.pattern_tree.proofs.Nodes.{at_either, from_map}
 use Rattle.pattern_tree.proofs.Numbered.{number_between, numbered_patterns}
 use Rattle.pattern_tree.proofs.Standing.{stands-listed}
@@ -108,3 +111,32 @@ few_tree tree is k node at =
 
 pub few_patterns : (tree : List TreeNode) → ∥ IsPatternTree tree ∥₁ → (k : ℕ) (node : TreeNode) → slice_get tree k ≡ Some node → length node.patterns ≤ 256
 few_patterns tree is k node at = ∥∥₁_elim is le_prop (λ is. few_tree tree is k node at)
+
+-- ---- a node by its number
+
+-- the node is there
+pub node_there : (tree : List TreeNode) (k : ℕ) → k < length tree → (node : TreeNode) × (slice_get tree k ≡ Some node)
+node_there tree k low = (get_or tree k (record { parent = None; patterns = [] }), slice_get-get_or tree k (record { parent = None; patterns = [] }) low)
+
+-- and has these triple patterns
+pub patterns_there : (tree : List TreeNode) (k : ℕ) (patterns : List TriplePat) (node : TreeNode) → option_map (λ node. node.patterns) (slice_get tree k) ≡ Some patterns → slice_get tree k ≡ Some node → patterns ≡ node.patterns
+patterns_there tree k patterns node told is =
+    let of_node : option_map (λ (node : TreeNode). node.patterns) (slice_get tree k) ≡ Some node.patterns = ap (option_map (λ node. node.patterns)) is in
+    let same : Some patterns ≡ Some node.patterns = sym told ∙ of_node in
+    cc
+
+-- an edge of the node is one of its triple patterns
+pub from_edge : (tree : List TreeNode) (k : ℕ) (patterns : List TriplePat) (p v : ℕ) → ((node : TreeNode) → slice_get tree k ≡ Some node → patterns ≡ node.patterns) → IsEdge tree k p v → HasEdge patterns p v
+from_edge tree k patterns p v are edge =
+    let s = edge.stands in
+    record { pattern = edge.pattern; among = subst (λ list. Contains list edge.pattern) (sym (are s.node s.stands)) s.among; entry = edge.entry; has = edge.has }
+
+pub to_edge : (tree : List TreeNode) (k : ℕ) (patterns : List TriplePat) (p v : ℕ) → ((node : TreeNode) → slice_get tree k ≡ Some node → patterns ≡ node.patterns) → k < length tree → HasEdge patterns p v → IsEdge tree k p v
+to_edge tree k patterns p v are low edge =
+    let there = node_there tree k low in
+    record {
+      pattern = edge.pattern;
+      stands = record { node = there.0; stands = there.1; among = subst (λ list. Contains list edge.pattern) (are there.0 there.1) edge.among };
+      entry = edge.entry;
+      has = edge.has;
+    }

@@ -1,16 +1,17 @@
 -- Edges of triple patterns, one after the other, and the sets that they make.
-use Rattle.std.proofs.Common.{◌≡◌, ◌↔◌, ◌⊎◌, inl, inr, ℕ, ◌+◌, ◌<◌, ◌≤◌, ◌++◌, List, [], ◌∷◌, length, set, take, get_or, map, flat_map, bit_or, Some, Contains, refl, sym, ◌∙◌, ap, subst, arith}
+use Rattle.std.proofs.Common.{◌≡◌, ◌↔◌, ◌⊎◌, inl, inr, ℕ, ◌+◌, ◌<◌, ◌≤◌, ◌++◌, List, [], ◌∷◌, length, replicate, set, take, get_or, map, flat_map, bit_or, Some, All, Contains, append-nil, refl, sym, ◌∙◌, ap, subst, arith}
 use Rattle.std.specs.Prelude.{slice_get, slice_index}
+use Rattle.std.proofs.lemmas.Grind.{flat_map-append}
 use Rattle.std.proofs.lemmas.Bool.{cases_eq, cases_lt}
-use Rattle.std.proofs.lemmas.List.{take_more, get_or-set_same, get_or-set_other, get_or-take, get_or_past}
-use Rattle.std.proofs.lemmas.List.Elements.{Contains-append_left, Contains-push, Contains-push_cases}
+use Rattle.std.proofs.lemmas.List.{take_more, get_or-set_same, get_or-set_other, get_or-take, get_or_past, length-take, get_or-replicate, length-replicate}
+use Rattle.std.proofs.lemmas.List.Elements.{All-contains, Contains-append_left, Contains-push, Contains-push_cases}
 use Rattle.alg_model.specs.declared.pattern.TriplePat.{TriplePat}
 use Rattle.alg_model.specs.Pattern.{triple_vars}
 use Rattle.alg_model.specs.VarSet.{HoldsJust}
 use Rattle.bm_term.proofs.Elements.{Contains-nil}
 use Rattle.join_graph.specs.Members.{HasVariable, PatternHas}
 use Rattle.join_graph.proofs.Bits.{HasVariable-zero, HasVariable-or}
-use Rattle.node_plans.specs.Placed.{HasEdge}
+use Rattle.node_plans.specs.Placed.{pattern_edges, edges_of, HasEdge, IsPlaced}
 use Rattle.pruning_laws.specs.Shown.{entry_of}
 
 -- no triple pattern has no edge
@@ -77,9 +78,25 @@ sets_cut sets n p v last = elim (cases_lt p n) as (λ _. PatternHas (take n sets
       let here = get_or-take n sets p 0 low in
       (λ has. subst (λ set. HasVariable set v) here has, λ has. subst (λ set. HasVariable set v) (sym here) has)
   | inr past ↦ (
-    λ has. absurd (HasVariable-zero v (subst (λ set. HasVariable set v) (get_or_past (take n sets) p 0 (omega (arith, past_end sets n))) has)),
+    λ has. absurd (HasVariable-zero v (subst (λ set. HasVariable set v) (get_or_past (take n sets) p 0 (let short = length-take n sets in omega arith)) has)),
     λ has. let low = last has in absurd (omega arith),
   )
-] where
-  past_end : (sets : List ℕ) (n : ℕ) → length (take n sets) ≤ n
-  past_end sets n = omega arith
+]
+
+-- the edges of some triple patterns, and those of one more
+pub edges_push : (patterns : List TriplePat) (one : TriplePat) → edges_of (patterns ++ one ∷ []) ≡ edges_of patterns ++ pattern_edges one
+edges_push patterns one = flat_map-append pattern_edges patterns (one ∷ []) ∙ ap (λ list. edges_of patterns ++ list) (append-nil (pattern_edges one))
+
+-- no set at first
+pub empty_sets : (p : ℕ) → slice_index (replicate 256 0) p ≡ 0
+empty_sets p = elim (cases_lt p 256) as (λ _. slice_index (replicate 256 0) p ≡ 0) [
+  | inl low ↦ get_or-replicate 256 p 0 0 low
+  | inr past ↦ get_or_past (replicate 256 0) p 0 (omega (arith, length-replicate 256 0))
+]
+
+-- the places of the edges are below the last number
+pub edge_below : (patterns : List TriplePat) (last p v : ℕ) → All IsPlaced patterns → ((pattern : TriplePat) → Contains patterns pattern → pattern.number ≤ last) → HasEdge patterns p v → p < last
+edge_below patterns last p v placed low edge =
+    let some = (All-contains IsPlaced patterns edge.pattern placed edge.among).some in
+    let entry = edge.entry in
+    omega (arith, low edge.pattern edge.among)
