@@ -91,7 +91,7 @@ edges_push patterns one = flat_map-append pattern_edges patterns (one ∷ []) �
 pub empty_sets : (p : ℕ) → slice_index (replicate 256 0) p ≡ 0
 empty_sets p = elim (cases_lt p 256) as (λ _. slice_index (replicate 256 0) p ≡ 0) [
   | inl low ↦ get_or-replicate 256 p 0 0 low
-  | inr past ↦ get_or_past (replicate 256 0) p 0 (omega (arith, length-replicate 256 0))
+  | inr past ↦ get_or_past (replicate 256 0) p 0 (omega (arith, length-replicate {A = ℕ} 256 0))
 ]
 
 -- the places of the edges are below the last number
@@ -100,3 +100,13 @@ edge_below patterns last p v placed low edge =
     let some = (All-contains IsPlaced patterns edge.pattern placed edge.among).some in
     let entry = edge.entry in
     omega (arith, low edge.pattern edge.among)
+
+-- a last number that one more triple pattern does not pass
+pub last_more : (patterns : List TriplePat) (i : ℕ) (one : TriplePat) (last more : ℕ) → ((pattern : TriplePat) → Contains (take i patterns) pattern → pattern.number ≤ last) → i < length patterns → get_or patterns i one ≡ one →
+    last ≤ more → one.number ≤ more → (pattern : TriplePat) → Contains (take (i + 1) patterns) pattern → pattern.number ≤ more
+last_more patterns i one last more low within is further own pattern at =
+    let front : take (i + 1) patterns ≡ take i patterns ++ one ∷ [] = take_more patterns i one within ∙ ap (λ x. take i patterns ++ x ∷ []) is in
+    elim (Contains-push_cases (take i patterns) one pattern (subst (λ list. Contains list pattern) front at)) as (λ _. pattern.number ≤ more) [
+      | inl before ↦ omega (arith, low pattern before)
+      | inr same ↦ omega (arith, ap (λ (p : TriplePat). p.number) same)
+    ]

@@ -24,13 +24,13 @@ apart_variables v w e = cc
 
 size_in : (n : ℕ) → HasSize (In n) (n + 64)
 size_in n = HasSize-same (λ m. ((p : ℕ) × (p < n) × (Pattern p ≡ m)) ⊎ ((v : ℕ) × (v < 64) × (Variable v ≡ m))) (In n) (n + 64)
-  (λ m h. elim h as (λ _. In n m) [ inl l ↦ subst (In n) l.2 l.1 | inr r ↦ subst (In n) r.2 r.1 ]) at_member
-  (HasSize-both (λ m. (p : ℕ) × (p < n) × (Pattern p ≡ m)) (λ m. (v : ℕ) × (v < 64) × (Variable v ≡ m)) n 64
-  (λ m l r. let e : Pattern l.0 ≡ Variable r.0 = cc (l.2, r.2) in cc)
-  (HasSize-image Pattern (λ p. p < n) n apart_patterns (HasSize-below n)) (HasSize-image Variable (λ v. v < 64) 64 apart_variables (HasSize-below 64))) where
-    at_member : (m : Member) → In n m → ((p : ℕ) × (p < n) × (Pattern p ≡ m)) ⊎ ((v : ℕ) × (v < 64) × (Variable v ≡ m))
-    at_member (Pattern p) h = inl (p, h, refl)
-    at_member (Variable v) h = inr (v, h, refl)
+    (λ m h. elim h as (λ _. In n m) [ inl l ↦ subst (In n) l.2 l.1 | inr r ↦ subst (In n) r.2 r.1 ]) at_member
+    (HasSize-both (λ m. (p : ℕ) × (p < n) × (Pattern p ≡ m)) (λ m. (v : ℕ) × (v < 64) × (Variable v ≡ m)) n 64
+    (λ m l r. let e : Pattern l.0 ≡ Variable r.0 = cc (l.2, r.2) in cc)
+    (HasSize-image Pattern (λ p. p < n) n apart_patterns (HasSize-below n)) (HasSize-image Variable (λ v. v < 64) 64 apart_variables (HasSize-below 64))) where
+      at_member : (m : Member) → In n m → ((p : ℕ) × (p < n) × (Pattern p ≡ m)) ⊎ ((v : ℕ) × (v < 64) × (Variable v ≡ m))
+      at_member (Pattern p) h = inl (p, h, refl)
+      at_member (Variable v) h = inr (v, h, refl)
 
 module _ (sets : List ℕ) (steps : List Member) (n : ℕ) (inside : (m : Member) → IsMember sets m → In n m) (removal : IsRemoval sets steps) where
   -- those that the first steps do not remove
@@ -46,11 +46,13 @@ module _ (sets : List ℕ) (steps : List Member) (n : ℕ) (inside : (m : Member
   -- and leaves the others
   rest_more : (i : ℕ) → i < length steps → (d m : Member) → without (Rest i) (get_or steps i d) m → Rest (suc i) m
   rest_more i low d m h =
-      let front = take_more steps i d low in
-      (h.0.0, λ c. elim (Contains-push_cases (take i steps) (get_or steps i d) m (subst (λ front. Contains front m) front (subst (λ k. Contains (take k steps) m) (sym (add-one i)) c))) as (λ _. ⊥) [
-        | inl was ↦ h.0.1 was
-        | inr e ↦ h.1 (sym e)
-      ])
+      let front = take_more steps i d low in (
+        h.0.0,
+        λ c. elim (Contains-push_cases (take i steps) (get_or steps i d) m (subst (λ front. Contains front m) front (subst (λ k. Contains (take k steps) m) (sym (add-one i)) c))) as (λ _. ⊥) [
+          | inl was ↦ h.0.1 was
+          | inr e ↦ h.1 (sym e)
+        ],
+      )
 
   rest_fewer : (i : ℕ) → i < length steps → (d m : Member) → Rest (suc i) m → without (Rest i) (get_or steps i d) m
   rest_fewer i low d m h =

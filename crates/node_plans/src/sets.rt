@@ -88,7 +88,10 @@ fn last_number(patterns: &PatRefs<'_, '_>) -> u16
 {
     let mut last = 0;
     for i in 0..patterns.len() {
-        last = last.max(patterns.get(i).number);
+        let number = patterns.get(i).number;
+        if last < number {
+            last = number;
+        }
     }
     last
 }

@@ -18,12 +18,14 @@ loop-i-preserved c =
       | in-Some w ↦
           let m = w.step.result in
           let here = get_or_from_slice_get steps i m m w.step.ensures in
-          let found : Some w.in-Some.other ≡ partner (are_near sets m) (drop (i + 1) steps) = sym w.in-Some.is ∙ c.partner_of.ensures m ∙ ap (λ n. partner (are_near sets n) (drop (i + 1) steps)) here in
-          (pairs_some (are_near sets) steps i m w.in-Some.other c.loop-i.pairs c.match-partner_of.pairs (pairs_by sets steps) w.step.ensures found (w.pairs-is ∙ w.push.ensures) c.loop-i.invariant.0,
-          omega (arith, ap length (w.pairs-is ∙ w.push.ensures), length_push c.loop-i.pairs (m, w.in-Some.other)))
+          let found : Some w.in-Some.other ≡ partner (are_near sets m) (drop (i + 1) steps) = sym w.in-Some.is ∙ c.partner_of.ensures m ∙ ap (λ n. partner (are_near sets n) (drop (i + 1) steps)) here in (
+            pairs_some (are_near sets) steps i m w.in-Some.other c.loop-i.pairs c.match-partner_of.pairs (pairs_by sets steps) w.step.ensures found (w.pairs-is ∙ w.push.ensures) c.loop-i.invariant.0,
+            omega (arith, ap length (w.pairs-is ∙ w.push.ensures), length_push c.loop-i.pairs (m, w.in-Some.other)),
+          )
       | in_default w ↦
           let m = get_or steps i (Pattern 0) in
-          let found : None ≡ partner (are_near sets m) (drop (i + 1) steps) = sym w.in_default.is ∙ c.partner_of.ensures (Pattern 0) in
-          (ap (λ pairs. pairs ++ pairs_by sets (drop (i + 1) steps)) w.pairs-is ∙ pairs_none (are_near sets) steps i m c.loop-i.pairs (pairs_by sets steps) (slice_get-get_or steps i (Pattern 0) (omega arith)) found c.loop-i.invariant.0,
-          omega (arith, ap length w.pairs-is))
+          let found : None ≡ partner (are_near sets m) (drop (i + 1) steps) = sym w.in_default.is ∙ c.partner_of.ensures (Pattern 0) in (
+            ap (λ pairs. pairs ++ pairs_by sets (drop (i + 1) steps)) w.pairs-is ∙ pairs_none (are_near sets) steps i m c.loop-i.pairs (pairs_by sets steps) (slice_get-get_or steps i (Pattern 0) (omega arith)) found c.loop-i.invariant.0,
+            omega (arith, ap length w.pairs-is),
+          )
     ]

@@ -1,9 +1,10 @@
-use Rattle.std.proofs.Common.{◌≡◌, ◌+◌, ◌≤◌, ◌++◌, ◌∷◌, [], inl, inr, take, get_or, Contains, sym, ◌∙◌, ap, subst, arith}
-use Rattle.std.proofs.lemmas.List.{take_more, take_all}
-use Rattle.std.proofs.lemmas.List.Elements.{All-contains, Contains-push_cases}
+use Rattle.std.proofs.Common.{◌≤◌, Contains, sym, subst, arith}
+use Rattle.std.proofs.lemmas.List.{take_all}
 use Rattle.std.proofs.lemmas.Option.{get_or_from_slice_get}
 use Rattle.node_plans.specs.Placed.{IsPlaced}
+use Rattle.node_plans.proofs.PlacedSets.{last_more}
 use Rattle.node_plans.proofs.sets.last_number.Goals as goal
+use Rattle.node_plans.proofs.sets.last_number.Goals.{then-last-number, else-last-number}
 
 pub loop-i-preserved : goal.loop-i-preserved
 loop-i-preserved c =
@@ -11,12 +12,12 @@ loop-i-preserved c =
     let i = c.loop-i.i in
     let one = c.get.result.now in
     let here = get_or_from_slice_get patterns i one one c.get.ensures in
-    let front : take (i + 1) patterns ≡ take i patterns ++ one ∷ [] = take_more patterns i one (omega arith) ∙ ap (λ x. take i patterns ++ x ∷ []) here in
     let low = (subst IsPlaced here (c.requires i one (omega arith))).low in
-    (λ pattern at. elim (Contains-push_cases (take i patterns) one pattern (subst (λ list. Contains list pattern) front at)) as (λ _. pattern.number ≤ c.max-last.result) [
-      | inl before ↦ omega (arith, c.loop-i.invariant.0 pattern before)
-      | inr is ↦ omega (arith, ap (λ p. p.number) is)
-    ], omega (arith, low))
+    let step = last_more patterns i one c.loop-i.last c.if-last-number.last c.loop-i.invariant.0 (omega arith) here in
+    elim c.if-last-number.branch [
+      | then-last-number w ↦ let is = w.last-is in let less = w.if-last-number.true in (step (omega arith) (omega arith), omega (arith, low))
+      | else-last-number w ↦ let is = w.last-is in let not_less = w.if-last-number.false in (step (omega arith) (omega arith), omega (arith, low))
+    ]
 
 pub returns-clause-last : goal.returns-clause-last
 returns-clause-last c = λ pattern at.

@@ -9,8 +9,7 @@ pub returns-clause-sets : goal.returns-clause-sets
 returns-clause-sets c = λ p v.
     let patterns = c.placed-patterns.result in
     let put = c.put_sets.ensures.sets p v in
-    let cut = sets_cut c.put_sets.new.sets c.last_number.result p v (λ has. edge_below patterns c.last_number.result p v c.placed-patterns.ensures.placed c.last_number.ensures.last (put.0 has)) in
-    (
+    let cut = sets_cut c.put_sets.new.sets c.last_number.result p v (λ has. edge_below patterns c.last_number.result p v c.placed-patterns.ensures.placed c.last_number.ensures.last (put.0 has)) in (
       λ has. to_edge c.args.tree.now c.args.node patterns p v c.placed-patterns.ensures.patterns c.requires (put.0 (cut.0 has)),
       λ edge. cut.1 (put.1 (from_edge c.args.tree.now c.args.node patterns p v c.placed-patterns.ensures.patterns edge)),
     )
