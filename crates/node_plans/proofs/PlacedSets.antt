@@ -4,11 +4,13 @@ use Rattle.std.specs.Prelude.{slice_get, slice_index}
 use Rattle.std.proofs.lemmas.Grind.{flat_map-append}
 use Rattle.std.proofs.lemmas.Bool.{cases_eq, cases_lt}
 use Rattle.std.proofs.lemmas.List.{take_more, get_or-set_same, get_or-set_other, get_or-take, get_or_past, length-take, get_or-replicate, length-replicate}
-use Rattle.std.proofs.lemmas.List.Elements.{All-contains, Contains-append_left, Contains-push, Contains-push_cases}
+use Rattle.std.proofs.lemmas.List.Elements.{All-contains, Contains-append_left, Contains-append_cases, Contains-push, Contains-push_cases}
+use Rattle.alg_model.specs.declared.pattern.Place.{Place}
+use Rattle.alg_model.specs.declared.pattern.Place.TheVariants as places
 use Rattle.alg_model.specs.declared.pattern.TriplePat.{TriplePat}
-use Rattle.alg_model.specs.Pattern.{triple_vars}
-use Rattle.alg_model.specs.VarSet.{HoldsJust}
-use Rattle.bm_term.proofs.Elements.{Contains-nil}
+use Rattle.alg_model.specs.Pattern.{place_vars, triple_vars}
+use Rattle.alg_model.specs.VarSet.{HoldsJust, PlaceFits}
+use Rattle.bm_term.proofs.Elements.{Contains-nil, Contains-single}
 use Rattle.join_graph.specs.Members.{HasVariable, PatternHas}
 use Rattle.join_graph.proofs.Bits.{HasVariable-zero, HasVariable-or}
 use Rattle.node_plans.specs.Placed.{pattern_edges, edges_of, HasEdge, IsPlaced}
@@ -110,3 +112,24 @@ last_more patterns i one last more low within is further own pattern at =
       | inl before ↦ omega (arith, low pattern before)
       | inr same ↦ omega (arith, ap (λ (p : TriplePat). p.number) same)
     ]
+
+-- edges are within the limits
+var_low : (place : Place) (v : ℕ) → PlaceFits place → Contains (place_vars place) v → v < 64
+var_low (places.Var var) v fits at = let is = Contains-single var.0 v at in omega (arith, fits)
+var_low (places.Term text) v fits at = absurd (Contains-nil v at)
+
+pub low_edge : (patterns : List TriplePat) (p v : ℕ) → All IsPlaced patterns → HasEdge patterns p v → (p < 256) × (v < 64)
+low_edge patterns p v placed edge =
+    let one = edge.pattern in
+    let here = All-contains IsPlaced patterns one placed edge.among in
+    let s = place_vars one.subject in
+    let q = place_vars one.predicate in
+    let o = place_vars one.object in
+    let entry = edge.entry in
+    (omega (arith, here.low, here.some), elim (Contains-append_cases s (q ++ o) v edge.has) as (λ _. v < 64) [
+      | inl at ↦ var_low one.subject v here.fits.subject at
+      | inr later ↦ elim (Contains-append_cases q o v later) as (λ _. v < 64) [
+        | inl at ↦ var_low one.predicate v here.fits.predicate at
+        | inr at ↦ var_low one.object v here.fits.object at
+      ]
+    ])

@@ -11,31 +11,26 @@ use Rattle.join_graph.specs.Sets.{HasSize, without}
 use Rattle.join_graph.proofs.Members.{cases_Member}
 use Rattle.join_graph.proofs.Sizes.{HasSize-same, HasSize-empty, HasSize-both, HasSize-image, HasSize-below, HasSize-without}
 
--- the members that there may be: some patterns and 64 variables
-abbrev In : ℕ → Member → Type 0
-In n (Pattern p) = p < n
-In n (Variable v) = v < 64
-
 apart_patterns : (p q : ℕ) → Pattern p ≡ Pattern q → p ≡ q
 apart_patterns p q e = cc
 
 apart_variables : (v w : ℕ) → Variable v ≡ Variable w → v ≡ w
 apart_variables v w e = cc
 
-size_in : (n : ℕ) → HasSize (In n) (n + 64)
-size_in n = HasSize-same (λ m. ((p : ℕ) × (p < n) × (Pattern p ≡ m)) ⊎ ((v : ℕ) × (v < 64) × (Variable v ≡ m))) (In n) (n + 64)
-    (λ m h. elim h as (λ _. In n m) [ inl l ↦ subst (In n) l.2 l.1 | inr r ↦ subst (In n) r.2 r.1 ]) at_member
+size_in : (n : ℕ) → HasSize (IsInRange n) (n + 64)
+size_in n = HasSize-same (λ m. ((p : ℕ) × (p < n) × (Pattern p ≡ m)) ⊎ ((v : ℕ) × (v < 64) × (Variable v ≡ m))) (IsInRange n) (n + 64)
+    (λ m h. elim h as (λ _. IsInRange n m) [ inl l ↦ subst (IsInRange n) l.2 l.1 | inr r ↦ subst (IsInRange n) r.2 r.1 ]) at_member
     (HasSize-both (λ m. (p : ℕ) × (p < n) × (Pattern p ≡ m)) (λ m. (v : ℕ) × (v < 64) × (Variable v ≡ m)) n 64
     (λ m l r. let e : Pattern l.0 ≡ Variable r.0 = cc (l.2, r.2) in cc)
     (HasSize-image Pattern (λ p. p < n) n apart_patterns (HasSize-below n)) (HasSize-image Variable (λ v. v < 64) 64 apart_variables (HasSize-below 64))) where
-      at_member : (m : Member) → In n m → ((p : ℕ) × (p < n) × (Pattern p ≡ m)) ⊎ ((v : ℕ) × (v < 64) × (Variable v ≡ m))
+      at_member : (m : Member) → IsInRange n m → ((p : ℕ) × (p < n) × (Pattern p ≡ m)) ⊎ ((v : ℕ) × (v < 64) × (Variable v ≡ m))
       at_member (Pattern p) h = inl (p, h, refl)
       at_member (Variable v) h = inr (v, h, refl)
 
-module _ (sets : List ℕ) (steps : List Member) (n : ℕ) (inside : (m : Member) → IsMember sets m → In n m) (removal : IsRemoval sets steps) where
+module _ (sets : List ℕ) (steps : List Member) (n : ℕ) (inside : (m : Member) → IsMember sets m → IsInRange n m) (removal : IsRemoval sets steps) where
   -- those that the first steps do not remove
   abbrev Rest : ℕ → Member → Type 0
-  Rest i m = In n m × (¬ Contains (take i steps) m)
+  Rest i m = IsInRange n m × (¬ Contains (take i steps) m)
 
   -- the next step removes one of them
   is_rest : (i : ℕ) → i < length steps → (d : Member) → Rest i (get_or steps i d)
@@ -63,7 +58,7 @@ module _ (sets : List ℕ) (steps : List Member) (n : ℕ) (inside : (m : Member
   size_rest : (i : ℕ) → i ≤ length steps → (k : ℕ) → k + i ≡ n + 64 → HasSize (Rest i) k
   size_rest zero low k is =
       let all : k ≡ n + 64 = omega arith in
-      HasSize-same (In n) (Rest 0) k (λ m h. (h, λ c. omega (arith, c.1))) (λ m h. h.0) (subst (HasSize (In n)) (sym all) (size_in n))
+      HasSize-same (IsInRange n) (Rest 0) k (λ m h. (h, λ c. omega (arith, c.1))) (λ m h. h.0) (subst (HasSize (IsInRange n)) (sym all) (size_in n))
   size_rest (suc i) low k is =
       let before : HasSize (Rest i) (suc k) = size_rest i (omega arith) (suc k) (omega arith) in
       let d = Pattern 0 in

@@ -34,3 +34,7 @@ IsNodePair tree k (Variable v) (Variable w) = ⊥
 abbrev pub IsWithinLimits : Member → Type 0
 IsWithinLimits (Pattern p) = p < 256
 IsWithinLimits (Variable v) = v < 64
+
+-- the edges of the node are within the limits of a query
+abbrev pub HasLowEdges : List TreeNode → ℕ → Type 0
+HasLowEdges tree k = (p v : ℕ) → IsEdge tree k p v → (p < 256) × (v < 64)

@@ -7,8 +7,10 @@
 
 mod edges;
 mod pairs;
+mod plan;
 mod removal;
 mod sets;
 
 pub use pairs::NodePairs;
+pub use plan::{all_forests, node_pairs};
 pub use sets::{NodeSets, node_sets};

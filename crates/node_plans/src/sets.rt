@@ -4,7 +4,7 @@ ghost use Rattle.std.specs.Prelude.{◌≡◌, ℕ, ◌<◌, ◌≤◌, ◌↔�
 ghost use Rattle.alg_model.specs.declared.pattern.TriplePat.{TriplePat};
 ghost use Rattle.join_graph.specs.Members.{PatternHas};
 ghost use Rattle.pattern_tree.specs.Tree.{TreeNode};
-ghost use Rattle.node_plans.specs.NodePlan.{AreSetsOf};
+ghost use Rattle.node_plans.specs.NodePlan.{AreSetsOf, HasLowEdges};
 ghost use Rattle.node_plans.specs.Placed.{HasEdge, IsPlaced};
 
 use pattern_tree::{PatRefs, Tree};
@@ -45,6 +45,7 @@ pub fn node_sets(tree: &Tree<'_>, node: u8) -> NodeSets
     requires { node < length tree.now }
     ensures sets { AreSetsOf tree.now node result }
     ensures few { length result ≤ 256 }
+    ensures limits { HasLowEdges tree.now node }
 {
     let patterns = placed(tree, node);
     let mut sets = [0; MAX_PATTERNS];

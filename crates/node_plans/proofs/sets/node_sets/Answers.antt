@@ -1,5 +1,5 @@
 use Rattle.node_plans.proofs.Limits.{from_edge, to_edge}
-use Rattle.node_plans.proofs.PlacedSets.{sets_cut, empty_sets, edge_below}
+use Rattle.node_plans.proofs.PlacedSets.{sets_cut, empty_sets, edge_below, low_edge}
 use Rattle.node_plans.proofs.sets.node_sets.Goals as goal
 
 pub put_sets-requires-clause-none : goal.put_sets-requires-clause-none
@@ -13,3 +13,7 @@ returns-clause-sets c = λ p v.
       λ has. to_edge c.args.tree.now c.args.node patterns p v c.placed-patterns.ensures.patterns c.requires (put.0 (cut.0 has)),
       λ edge. cut.1 (put.1 (from_edge c.args.tree.now c.args.node patterns p v c.placed-patterns.ensures.patterns edge)),
     )
+
+pub returns-clause-limits : goal.returns-clause-limits
+returns-clause-limits c = λ p v edge.
+    low_edge c.placed-patterns.result p v c.placed-patterns.ensures.placed (from_edge c.args.tree.now c.args.node c.placed-patterns.result p v c.placed-patterns.ensures.patterns edge)
