@@ -1,28 +1,27 @@
 -- The pairs of a node: that they are a plan of it, and what each pair is.
-use Rattle.std.proofs.Common.{◌≡◌, ◌↔◌, ◌⊎◌, inl, inr, ◌+◌, ◌<◌, ◌≤◌, ℕ, zero, suc, Bool, true, false, List, [], ◌∷◌, length, take, get_or, map, flat_map, Some, None, Contains, IsTrue, refl, sym, ◌∙◌, ap, subst, arith, eqb-true}
+use Rattle.std.proofs.Common.{◌≡◌, inl, inr, ◌<◌, ◌≤◌, ℕ, Bool, true, List, [], ◌∷◌, length, Some, None, Contains, refl, ap, subst, arith, eqb-true}
 use Rattle.std.specs.Int.{bit_at}
 use Rattle.std.specs.Prelude.{slice_get, slice_index}
 use Rattle.std.proofs.lemmas.Bool.{cases_lt}
-use Rattle.std.proofs.lemmas.List.Elements.{Contains-get_or}
 use Rattle.alg_model.specs.declared.pattern.TriplePat.{TriplePat}
 use Rattle.alg_model.specs.Pattern.{triple_vars}
 use Rattle.alg_model.proofs.Lists.{Contains-flat_map, source-flat_map}
 use Rattle.bm_term.proofs.Elements.{Contains-nil, Contains-cons_cases}
 use Rattle.join_graph.specs.declared.steps.Step.TheVariants.{Pattern, Variable}
-use Rattle.join_graph.specs.Core.{neighbours_in, EachHasTwoNeighbours, passing, core_of, IsForest}
+use Rattle.join_graph.specs.Core.{neighbours_in, passing, core_of, IsForest}
 use Rattle.join_graph.specs.Left.{IsInRange}
 use Rattle.join_graph.specs.Members.{Member, PatternHas, IsMember, IsNeighbour}
-use Rattle.join_graph.specs.Removal.{IsLeft, IsRemoval, RemovesAll}
+use Rattle.join_graph.specs.Removal.{IsRemoval, RemovesAll}
 use Rattle.join_graph.specs.Sets.{HasTwo, HasSize}
 use Rattle.join_graph.proofs.Sizes.{HasSize-empty, HasSize-some}
-use Rattle.node_plans.specs.NodePlan.{AreSetsOf, IsForestNode, IsByRemoval, IsNodePlan, IsNodePair, IsWithinLimits, HasLowEdges}
-use Rattle.node_plans.specs.Placed.{pattern_edges, edges_of, HasEdge}
+use Rattle.node_plans.specs.NodePlan.{AreSetsOf, IsForestNode, IsByRemoval, IsNodePair, IsWithinLimits, HasLowEdges}
+use Rattle.node_plans.specs.Placed.{pattern_edges, edges_of}
 use Rattle.node_plans.proofs.Limits.{from_edge, to_edge}
 use Rattle.node_plans.proofs.StepSizes.{few_steps}
 use Rattle.pattern_tree.specs.Tree.{TreeNode}
 use Rattle.pattern_tree.proofs.Pruning.{Contains-map, map-Contains}
 use Rattle.pruning_laws.specs.Passes.{partner, with_partner, pairs_of}
-use Rattle.pruning_laws.specs.Plans.{IsEdge, IsStripped, pairs_by, IsEdgePair, AreEdges}
+use Rattle.pruning_laws.specs.Plans.{IsEdge, pairs_by, IsEdgePair, AreEdges}
 use Rattle.pruning_laws.specs.Shown.{entry_of}
 use Rattle.pruning_laws.specs.TreePasses.{are_near}
 use Rattle.pruning_laws.proofs.Pairing.{partner-source}

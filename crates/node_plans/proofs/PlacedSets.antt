@@ -1,6 +1,6 @@
 -- Edges of triple patterns, one after the other, and the sets that they make.
-use Rattle.std.proofs.Common.{◌≡◌, ◌↔◌, ◌⊎◌, inl, inr, ℕ, ◌+◌, ◌<◌, ◌≤◌, ◌++◌, List, [], ◌∷◌, length, replicate, set, take, get_or, map, flat_map, bit_or, Some, All, Contains, append-nil, refl, sym, ◌∙◌, ap, subst, arith}
-use Rattle.std.specs.Prelude.{slice_get, slice_index}
+use Rattle.std.proofs.Common.{◌≡◌, ◌↔◌, ◌⊎◌, inl, inr, ℕ, ◌+◌, ◌<◌, ◌≤◌, ◌++◌, List, [], ◌∷◌, length, replicate, set, take, get_or, bit_or, All, Contains, append-nil, refl, sym, ◌∙◌, ap, subst, arith}
+use Rattle.std.specs.Prelude.{slice_index}
 use Rattle.std.proofs.lemmas.Grind.{flat_map-append}
 use Rattle.std.proofs.lemmas.Bool.{cases_eq, cases_lt}
 use Rattle.std.proofs.lemmas.List.{take_more, get_or-set_same, get_or-set_other, get_or-take, get_or_past, length-take, get_or-replicate, length-replicate}
@@ -125,11 +125,13 @@ low_edge patterns p v placed edge =
     let s = place_vars one.subject in
     let q = place_vars one.predicate in
     let o = place_vars one.object in
-    let entry = edge.entry in
-    (omega (arith, here.low, here.some), elim (Contains-append_cases s (q ++ o) v edge.has) as (λ _. v < 64) [
-      | inl at ↦ var_low one.subject v here.fits.subject at
-      | inr later ↦ elim (Contains-append_cases q o v later) as (λ _. v < 64) [
-        | inl at ↦ var_low one.predicate v here.fits.predicate at
+    let entry = edge.entry in (
+      omega (arith, here.low, here.some),
+      elim (Contains-append_cases (s ++ q) o v edge.has) as (λ _. v < 64) [
+        | inl before ↦ elim (Contains-append_cases s q v before) as (λ _. v < 64) [
+          | inl at ↦ var_low one.subject v here.fits.subject at
+          | inr at ↦ var_low one.predicate v here.fits.predicate at
+        ]
         | inr at ↦ var_low one.object v here.fits.object at
-      ]
-    ])
+      ],
+    )

@@ -1,12 +1,12 @@
 -- A removal has no more steps than there are members.
-use Rattle.std.proofs.Common.{◌≡◌, ◌≢◌, ◌⊎◌, inl, inr, ◌+◌, ◌<◌, ◌≤◌, ℕ, zero, suc, ◌++◌, List, [], ◌∷◌, length, take, get_or, Contains, refl, sym, subst, arith, add-one}
+use Rattle.std.proofs.Common.{◌≡◌, ◌⊎◌, inl, inr, ◌+◌, ◌<◌, ◌≤◌, ℕ, zero, suc, ◌++◌, List, [], ◌∷◌, length, take, get_or, Contains, refl, sym, subst, arith, add-one}
 use Rattle.std.proofs.lemmas.Bool.{cases_lt}
 use Rattle.std.proofs.lemmas.List.{take_more}
 use Rattle.std.proofs.lemmas.List.Elements.{Contains-append_left, Contains-push, Contains-push_cases}
 use Rattle.join_graph.specs.declared.steps.Step.TheVariants.{Pattern, Variable}
 use Rattle.join_graph.specs.Left.{IsInRange}
-use Rattle.join_graph.specs.Members.{Member, OccursIn, IsMember}
-use Rattle.join_graph.specs.Removal.{IsLeft, IsRemoval}
+use Rattle.join_graph.specs.Members.{Member, IsMember}
+use Rattle.join_graph.specs.Removal.{IsRemoval}
 use Rattle.join_graph.specs.Sets.{HasSize, without}
 use Rattle.join_graph.proofs.Members.{cases_Member}
 use Rattle.join_graph.proofs.Sizes.{HasSize-same, HasSize-empty, HasSize-both, HasSize-image, HasSize-below, HasSize-without}

@@ -1,4 +1,4 @@
-use Rattle.std.proofs.Common.{◌≤◌, Contains, sym, subst, arith}
+use Rattle.std.proofs.Common.{Contains, sym, subst, arith}
 use Rattle.std.proofs.lemmas.List.{take_all}
 use Rattle.std.proofs.lemmas.Option.{get_or_from_slice_get}
 use Rattle.node_plans.specs.Placed.{IsPlaced}
