@@ -1,0 +1,5 @@
+pub mod PlacedSets
+pub mod Partners
+pub mod Limits
+pub mod StepSizes
+pub mod NodePlans
