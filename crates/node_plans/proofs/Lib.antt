@@ -1,3 +1,4 @@
+mod Examples
 pub mod PlacedSets
 pub mod Partners
 pub mod Limits
