@@ -4,3 +4,4 @@ pub mod Partners
 pub mod Limits
 pub mod StepSizes
 pub mod NodePlans
+pub mod WholeTrees
