@@ -63,6 +63,7 @@ pub(crate) fn placed<'a, 'q>(tree: &'a Tree<'q>, node: u8) -> PatRefs<'a, 'q>
     ensures placed { All IsPlaced result }
     ensures few { length result ≤ 256 }
 {
+    // This is called for its contract: it is the tree of a pattern that keeps the limits.
     let _nodes = tree.nodes();
     tree.patterns(node)
 }
