@@ -1,2 +1,4 @@
+pub mod Covering
+pub mod NodeRows
 pub mod Removing
 pub mod SetVars
