@@ -1,24 +1,23 @@
 -- From a partial solution to a maximal one that extends it, over any family: the nodes of the tree are tried one after
 -- another, each where its parent is held. Where a node is left out, no row that extends the solution solves it; so at the
 -- end the solution is maximal.
-use Rattle.std.proofs.Common.{◌≡◌, ◌≢◌, ◌⊎◌, ℕ, zero, suc, ◌<◌, ◌≤◌, ◌++◌, inl, inr, Bool, true, false, List, [], ◌∷◌, length, Contains, Option, Some, None, IsSome, refl, sym, ◌∙◌, ap, subst, arith}
+use Rattle.std.proofs.Common.{◌≡◌, ◌≢◌, ◌⊎◌, ℕ, zero, suc, ◌<◌, inl, inr, Bool, true, false, List, [], ◌∷◌, length, Contains, Option, Some, None, refl, sym, ◌∙◌, subst, arith}
 use Rattle.std.specs.Prelude.{slice_get}
-use Rattle.std.proofs.lemmas.Bool.{cases_Bool, cases_eq, cases_lt}
-use Rattle.std.proofs.lemmas.List.Elements.{Contains-append_left, Contains-append_right, Contains-append_cases}
-use Rattle.bm_term.proofs.Elements.{Contains-head, Contains-tail, Contains-cons_cases, Contains-nil, Contains-single}
+use Rattle.std.proofs.lemmas.Bool.{cases_Bool, cases_eq}
+use Rattle.bm_term.proofs.Elements.{Contains-head, Contains-tail, Contains-cons_cases, Contains-nil}
 use Rattle.alg_model.specs.declared.pattern.TriplePat.{TriplePat}
 use Rattle.alg_model.specs.Row.{Row, binding, Extends, BindsMore}
 use Rattle.alg_model.specs.Pattern.{triple_vars}
 use Rattle.alg_model.specs.Eval.{Interpretation}
 use Rattle.alg_model.specs.Solution.{TellsValues}
-use Rattle.alg_model.proofs.Cells.{value_from_IsSome, IsSome-from_value}
+use Rattle.alg_model.proofs.Cells.{value_from_IsSome}
 use Rattle.alg_model.proofs.Lists.{Contains-flat_map, source-flat_map}
 use Rattle.pattern_tree.specs.Solution.{Family, IsSolutionOf, IsPartialSolution, IsPartialRow}
 use Rattle.pattern_tree.specs.Tree.{TreeNode, patterns_of}
 use Rattle.pattern_tree.proofs.Connected.{node_low, node_there}
 use Rattle.pattern_tree.proofs.Evaluation.{Agree, merge_of_agreeing}
 use Rattle.pattern_tree.proofs.Standing.{patterns_of-stands, stands-patterns_of}
-use Rattle.pattern_tree.proofs.Unions.{solution-union, Extends-refl, Extends-trans, Extends-union}
+use Rattle.pattern_tree.proofs.Unions.{solution-union, Extends-refl, Extends-trans}
 use Rattle.multiway_join.specs.FlatRows.{with_node, has_parent, ends}
 use Rattle.multiway_join.proofs.Complete.{HasParentsFirst, part_of}
 use Rattle.multiway_join.proofs.Ends.{ends_sound, ends_complete}

@@ -1,4 +1,6 @@
 pub mod Covering
+pub mod Minimal
 pub mod NodeRows
 pub mod Removing
+pub mod Rising
 pub mod SetVars

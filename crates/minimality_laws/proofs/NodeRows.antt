@@ -1,6 +1,6 @@
 -- In a node that is a forest, each triple of a consistent family of matches is part of a row that solves the node. The
 -- node stands alone, as a scene of one node.
-use Rattle.std.proofs.Common.{◌≡◌, ◌↔◌, inl, inr, ℕ, ◌<◌, ◌++◌, List, [], ◌∷◌, length, get_or, map, All, Any, Contains, Option, Some, None, IsSome, refl, sym, ◌∙◌, ap, subst, arith}
+use Rattle.std.proofs.Common.{◌≡◌, ◌↔◌, inl, inr, ℕ, ◌<◌, ◌++◌, List, [], ◌∷◌, length, get_or, map, Contains, Some, None, refl, sym, ◌∙◌, ap, subst, arith}
 use Rattle.std.specs.List.{range_with_len}
 use Rattle.std.specs.Prelude.{slice_get}
 use Rattle.std.proofs.lemmas.List.{get_or-map, get_or_default, length-map}
@@ -19,23 +19,22 @@ use Rattle.alg_model.proofs.Joins.{cut, width-cut, cut_inside, cut_binds}
 use Rattle.alg_model.proofs.Lists.{Contains-flat_map, source-flat_map}
 use Rattle.alg_model.proofs.Width.{HasWidth}
 use Rattle.join_graph.specs.Core.{IsForest}
-use Rattle.join_graph.specs.Members.{Member, PatternHas}
+use Rattle.join_graph.specs.Members.{PatternHas}
 use Rattle.pattern_tree.specs.Consistent.{TakesValue, IsConsistent}
 use Rattle.pattern_tree.specs.Solution.{Family, IsSolutionOf}
 use Rattle.pattern_tree.specs.Standing.{StandsAt, itself}
 use Rattle.pattern_tree.specs.Tree.{TreeNode}
 use Rattle.pattern_tree.proofs.Choices.{list_vars}
-use Rattle.pattern_tree.proofs.Pruning.{takes_some}
 use Rattle.pattern_tree.proofs.Unions.{IsMade}
 use Rattle.multiway_join.proofs.Sound.{TreeVarsBelow}
 use Rattle.pruning_laws.specs.Matches.{MayStand, IsMatch, AreMatches}
 use Rattle.pruning_laws.specs.Passes.{pairs_of}
-use Rattle.pruning_laws.specs.Scene.{Column, Scene, columns_at, node_of, Has, Gives, here, StandsIn}
+use Rattle.pruning_laws.specs.Scene.{Scene, columns_at, Has, Gives, StandsIn}
 use Rattle.pruning_laws.specs.SceneOf.{columns_of}
 use Rattle.pruning_laws.specs.TreePasses.{Holding, are_near}
 use Rattle.pruning_laws.proofs.ArcConsistent.{IsArcConsistent, GivesOne}
 use Rattle.pruning_laws.proofs.Columns.{has-columns, gives-columns}
-use Rattle.pruning_laws.proofs.NodeSolutions.{IsPairing, NodeSolution, solve_node}
+use Rattle.pruning_laws.proofs.NodeSolutions.{IsPairing, solve_node}
 use Rattle.pruning_laws.proofs.Pairing.{pairing_from_removal}
 use Rattle.pruning_laws.proofs.SceneShows.{no_pattern}
 use Rattle.minimality_laws.specs.SimpleTree.{sets_of}

@@ -3,7 +3,6 @@ use Rattle.std.proofs.Common.{◌≡◌, ◌↔◌, ◌⊎◌, inl, inr, ℕ, ze
 use Rattle.std.proofs.lemmas.Bool.{cases_eq}
 use Rattle.std.proofs.lemmas.List.{get_or-map, length-map}
 use Rattle.std.proofs.lemmas.List.Elements.{Contains-get_or}
-use Rattle.std.specs.Prelude.{slice_index}
 use Rattle.bm_term.proofs.Elements.{Contains-head, Contains-tail, Contains-cons_cases, Contains-nil}
 use Rattle.alg_model.specs.declared.pattern.TriplePat.{TriplePat}
 use Rattle.alg_model.specs.Pattern.{triple_vars}
@@ -59,7 +58,7 @@ module _ (patterns : List TriplePat) (d : TriplePat) where
         let at = from.1 in
         let same = get_or_other patterns at.0 from.0 d at.1 in
         (at.0, at_has at.0 v at.1 (subst (λ p. Contains (triple_vars p) v) same (subst (λ p. Contains (triple_vars p) v) (sym at.2) from.2)))
-    ),
+        ),
   ) where
     get_or_other : (xs : List TriplePat) (i : ℕ) (d e : TriplePat) → i < length xs → get_or xs i d ≡ get_or xs i e
     get_or_other [] i d e low = absurd (omega (arith, low))
