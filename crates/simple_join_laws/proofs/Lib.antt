@@ -1,3 +1,4 @@
 pub mod Cycles
 pub mod Forests
 pub mod Linked
+pub mod NodeEnds
