@@ -2,3 +2,4 @@ pub mod Cycles
 pub mod Forests
 pub mod Linked
 pub mod NodeEnds
+pub mod Walking
