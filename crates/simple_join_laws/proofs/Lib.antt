@@ -1,5 +1,7 @@
 pub mod Cycles
+pub mod FlatRoots
 pub mod Forests
 pub mod Linked
 pub mod NodeEnds
+pub mod SimpleRows
 pub mod Walking

@@ -137,7 +137,7 @@ module _ {V X : Type 0} (interpretation : Interpretation V X) (tells : TellsValu
     pub tried : IsTried interpretation tells n left tree few root parents (length tree) set q
     pub over : Extends q row
 
-  arrive : (nodes : List TreeNode) (k : ℕ) (matched : ℕ → Bool) (row q : Row V) (seen : List ℕ) → AreFrom tree k nodes → k + length nodes ≡ length tree → AreFit counts seen nodes → IsUnderWay k matched row seen →
+  pub arrive : (nodes : List TreeNode) (k : ℕ) (matched : ℕ → Bool) (row q : Row V) (seen : List ℕ) → AreFrom tree k nodes → k + length nodes ≡ length tree → AreFit counts seen nodes → IsUnderWay k matched row seen →
       Contains (rows_from interpretation n left nodes k matched row) q → IsArrived row q
   arrive [] k matched row q seen from last fit way at =
       let e : k ≡ length tree = omega (arith, last) in
@@ -174,7 +174,7 @@ module _ {V X : Type 0} (interpretation : Interpretation V X) (tells : TellsValu
   -- ---- each once
 
   module _ (each : HasEachOnce interpretation tree left) where
-    once_from : (nodes : List TreeNode) (k : ℕ) (matched : ℕ → Bool) (row : Row V) (seen : List ℕ) → AreFrom tree k nodes → k + length nodes ≡ length tree → AreFit counts seen nodes → IsUnderWay k matched row seen →
+    pub once_from : (nodes : List TreeNode) (k : ℕ) (matched : ℕ → Bool) (row : Row V) (seen : List ℕ) → AreFrom tree k nodes → k + length nodes ≡ length tree → AreFit counts seen nodes → IsUnderWay k matched row seen →
         AllPairs (λ r s. r ≢ s) (rows_from interpretation n left nodes k matched row)
     once_from [] k matched row seen from last fit way = once_alone row
     once_from (node ∷ nodes) k matched row seen from last fit way =
