@@ -1,4 +1,5 @@
 pub mod Covering
+pub mod Examples
 pub mod Minimal
 pub mod NodeRows
 pub mod Removing

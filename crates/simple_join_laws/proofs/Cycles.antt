@@ -1,12 +1,12 @@
 -- In a forest of triple patterns in a linked order, no pattern shares two variables with those before it: two variables
 -- of patterns that hang together are bridged by a set in which all other members have two neighbours, and a pattern that
 -- has both would make it part of the core.
-use Rattle.std.proofs.Common.{◌≡◌, ◌≢◌, ◌⊎◌, inl, inr, ℕ, zero, suc, ◌<◌, ◌≤◌, ◌||◌, Bool, true, false, List, refl, sym, ap, subst, arith, eqb-true, eq-eqb, IsTrue}
+use Rattle.std.proofs.Common.{◌≡◌, ◌≢◌, ◌⊎◌, inl, inr, ℕ, zero, suc, ◌<◌, ◌≤◌, ◌||◌, Bool, true, List, refl, sym, ap, subst, arith, eqb-true, eq-eqb}
 use Rattle.std.specs.Prelude.{◌==◌}
 use Rattle.std.proofs.lemmas.Bool.{cases_eq, or_left, or_right, or_cases}
 use Rattle.join_graph.specs.declared.steps.Step.TheVariants.{Pattern, Variable}
 use Rattle.join_graph.specs.Core.{neighbours_in, EachHasTwoNeighbours, passing, core_of, IsForest}
-use Rattle.join_graph.specs.Members.{Member, PatternHas, IsNeighbour}
+use Rattle.join_graph.specs.Members.{Member, PatternHas}
 use Rattle.join_graph.specs.Sets.{HasTwo}
 use Rattle.join_graph.proofs.Members.{cases_Member, OccursBelow}
 

@@ -1,5 +1,5 @@
 -- The flat rows from the root on: at each all nodes have been tried, and none comes twice.
-use Rattle.std.proofs.Common.{◌≡◌, ◌≢◌, ◌⊎◌, inl, inr, ℕ, zero, suc, ◌+◌, ◌<◌, ◌++◌, Bool, true, List, [], ◌∷◌, length, flat_map, AllPairs, Contains, Option, Some, None, refl, sym, ap, subst, arith, eqb-true}
+use Rattle.std.proofs.Common.{◌≡◌, ◌≢◌, ◌⊎◌, ℕ, ◌<◌, ◌++◌, Bool, List, [], ◌∷◌, length, AllPairs, Contains, Option, Some, None, refl, ap, subst, arith, eqb-true}
 use Rattle.bm_term.proofs.Elements.{Contains-nil}
 use Rattle.alg_model.specs.declared.pattern.TriplePat.{TriplePat}
 use Rattle.alg_model.specs.Row.{Row, unbound}

@@ -1,4 +1,5 @@
 pub mod Cycles
+pub mod Examples
 pub mod FlatRoots
 pub mod Forests
 pub mod Linked

@@ -1,6 +1,6 @@
 -- The triple patterns of a node in join order, behind those of the nodes before: from the second on, a variable that one
 -- shares with what comes before it is a variable of the node's own earlier triple patterns, and it is one.
-use Rattle.std.proofs.Common.{◌≡◌, ◌⊎◌, inl, inr, ℕ, zero, suc, ◌<◌, ◌≤◌, ◌++◌, List, [], ◌∷◌, length, get_or, map, Contains, sym, subst, arith}
+use Rattle.std.proofs.Common.{◌≡◌, ◌⊎◌, inl, inr, ℕ, zero, suc, ◌<◌, ◌≤◌, ◌++◌, List, [], ◌∷◌, length, get_or, map, Contains, subst, arith}
 use Rattle.std.proofs.lemmas.List.{length-map}
 use Rattle.std.proofs.lemmas.List.Elements.{Contains-get_or, Contains-append_left, Contains-append_right, Contains-append_cases}
 use Rattle.alg_model.specs.declared.pattern.TriplePat.{TriplePat}
@@ -10,7 +10,7 @@ use Rattle.join_graph.specs.Core.{IsForest}
 use Rattle.join_graph.specs.Members.{PatternHas, OccursIn}
 use Rattle.join_graph.proofs.Members.{OccursBelow, PatternHas-place}
 use Rattle.multiway_join.specs.JoinOrder.{AreInOrder}
-use Rattle.minimality_laws.proofs.SetVars.{set_has, has_at, at_has}
+use Rattle.minimality_laws.proofs.SetVars.{set_has, has_at}
 use Rattle.simple_join_laws.proofs.Cycles.{IsLinkedOrder, shares_one_before}
 
 -- the variable is of the nodes before, or of the first triple patterns

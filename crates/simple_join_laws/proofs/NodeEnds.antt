@@ -1,12 +1,12 @@
 -- The ends of a row at a node in join order, over a consistent family of matches: where some triple continues the row at the
 -- first triple pattern there is no dead end, and else the one dead end is all. And no end comes twice.
-use Rattle.std.proofs.Common.{◌≡◌, ◌≢◌, ◌↔◌, ◌⊎◌, inl, inr, ℕ, zero, suc, ◌<◌, ◌++◌, List, [], ◌∷◌, length, get_or, map, flat_map, filter_map, AllPairs, Contains, Option, Some, None, option_to_list, append-nil, append_assoc, refl, sym, ◌∙◌, ap, subst, arith}
+use Rattle.std.proofs.Common.{◌≡◌, ◌≢◌, ◌⊎◌, inl, inr, ℕ, ◌<◌, ◌++◌, List, [], ◌∷◌, length, get_or, map, flat_map, AllPairs, Contains, Option, Some, None, option_to_list, append-nil, append_assoc, refl, sym, ◌∙◌, ap, subst, arith}
 use Rattle.std.specs.Prelude.{slice_get}
 use Rattle.std.proofs.lemmas.List.{get_or_append_left, get_or_at, length-append}
-use Rattle.std.proofs.lemmas.List.Elements.{All-nil, All-cons, All-contains, Contains-get_or, Contains-append_left, Contains-append_right, Contains-append_cases}
-use Rattle.bm_term.proofs.Elements.{Contains-head, Contains-tail, Contains-nil, Contains-single}
+use Rattle.std.proofs.lemmas.List.Elements.{All-nil, All-cons, All-contains, Contains-get_or, Contains-append_left, Contains-append_right}
+use Rattle.bm_term.proofs.Elements.{Contains-head, Contains-nil, Contains-single}
 use Rattle.alg_model.specs.declared.pattern.TriplePat.{TriplePat}
-use Rattle.alg_model.specs.Row.{Row, binding, Extends, merged}
+use Rattle.alg_model.specs.Row.{Row, binding, merged}
 use Rattle.alg_model.specs.Pattern.{triple_vars}
 use Rattle.alg_model.specs.VarSet.{triple_set}
 use Rattle.alg_model.specs.Eval.{Interpretation, match_of, matches_of}
@@ -28,9 +28,9 @@ use Rattle.pattern_tree.proofs.Pruning.{binds_value, takes_some}
 use Rattle.pattern_tree.proofs.Unions.{IsMade, solution-union}
 use Rattle.multiway_join.specs.FlatRows.{or_dead_end, continued, ends}
 use Rattle.multiway_join.specs.JoinOrder.{AreInOrder}
-use Rattle.multiway_join.proofs.Ends.{VarsBelow, live, continued_sound, continued_complete, ends_sound, ends_cases}
+use Rattle.multiway_join.proofs.Ends.{VarsBelow, continued_sound, continued_complete, ends_sound, ends_cases}
 use Rattle.multiway_join.proofs.Nodes.{stands_here}
-use Rattle.multiway_join.proofs.Sound.{TreeVarsBelow, node_below}
+use Rattle.multiway_join.proofs.Sound.{TreeVarsBelow}
 use Rattle.pruning_laws.specs.Matches.{IsMatch, AreMatches}
 use Rattle.minimality_laws.specs.SimpleTree.{sets_of}
 use Rattle.minimality_laws.proofs.NodeRows.{row_of_values, values_width, values_binds, values_bound, makes_from, takes_var}
@@ -144,9 +144,12 @@ module _ {V X : Type 0} (interpretation : Interpretation V X) (tells : TellsValu
     taken_below v at =
         let occurs = (occurs_vars taken p v).1 at in
         let there = has_at taken p occurs.0 v occurs.1 in
-        let low = there.0 in
-        (occurs.0, low, subst (λ list. PatternHas (map triple_set list) occurs.0 v) is
-        (at_has (taken ++ p ∷ rest) p occurs.0 v (omega (arith, low, length-append taken (p ∷ rest))) (subst (λ q. Contains (triple_vars q) v) (sym (get_or_append_left taken (p ∷ rest) p occurs.0 low)) there.1)))
+        let low = there.0 in (
+          occurs.0,
+          low,
+          subst (λ list. PatternHas (map triple_set list) occurs.0 v) is
+              (at_has (taken ++ p ∷ rest) p occurs.0 v (omega (arith, low, length-append taken (p ∷ rest))) (subst (λ q. Contains (triple_vars q) v) (sym (get_or_append_left taken (p ∷ rest) p occurs.0 low)) there.1)),
+        )
 
     below_taken : (v : ℕ) → OccursBelow (sets_of node) (length taken) v → Contains (list_vars taken) v
     below_taken v occurs =

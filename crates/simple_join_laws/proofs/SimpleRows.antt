@@ -1,5 +1,5 @@
 -- The flat rows of a simple tree in join order: exactly the rows of the maximal partial solutions, each once.
-use Rattle.std.proofs.Common.{◌≡◌, ◌≢◌, ◌↔◌, inl, inr, ℕ, suc, ◌+◌, ◌<◌, ◌++◌, Bool, Some, List, [], ◌∷◌, length, map, AllPairs, Contains, sym, ◌∙◌, subst, arith}
+use Rattle.std.proofs.Common.{◌≡◌, ◌≢◌, ◌↔◌, inl, inr, ℕ, suc, ◌+◌, ◌<◌, ◌++◌, Bool, Some, List, [], ◌∷◌, AllPairs, Contains, sym, ◌∙◌, subst, arith}
 use Rattle.std.specs.Prelude.{slice_get}
 use Rattle.std.proofs.lemmas.List.Elements.{Contains-append_cases}
 use Rattle.std.proofs.lemmas.List.Sorted.{IsPermutation-map}
@@ -29,14 +29,14 @@ use Rattle.multiway_join.proofs.Sound.{TreeVarsBelow, AreFrom, first_place, rest
 use Rattle.pruning_laws.specs.Matches.{AreMatches}
 use Rattle.pruning_laws.proofs.SceneShows.{no_pattern}
 use Rattle.minimality_laws.specs.SimpleTree.{sets_of, AreForests, SharesOne}
-use Rattle.minimality_laws.proofs.Covering.{IsTried, tried_is_maximal}
+use Rattle.minimality_laws.proofs.Covering.{tried_is_maximal}
 use Rattle.minimality_laws.proofs.Minimal.{same_solved}
 use Rattle.minimality_laws.proofs.Rising.{within_low}
 use Rattle.minimality_laws.proofs.SetVars.{occurs_vars}
 use Rattle.simple_join_laws.specs.EachOnce.{HasEachOnce}
 use Rattle.simple_join_laws.proofs.FlatRoots.{flat_arrives, flat_once}
 use Rattle.simple_join_laws.proofs.Forests.{forest_permuted}
-use Rattle.simple_join_laws.proofs.Walking.{FitsBehind, AreFit}
+use Rattle.simple_join_laws.proofs.Walking.{AreFit}
 
 -- ---- what a tree has, its join order has
 

@@ -1,37 +1,36 @@
 -- The flat rows of a tree in join order whose nodes are forests and share one variable with their parents, over a
 -- consistent family of matches: at each flat row all nodes have been tried, and no flat row comes twice.
-use Rattle.std.proofs.Common.{◌≡◌, ◌≢◌, ◌⊎◌, inl, inr, ℕ, zero, suc, ◌+◌, ◌<◌, ◌++◌, Bool, true, false, if◌then◌else◌, List, [], ◌∷◌, length, flat_map, AllPairs, Contains, Option, Some, None, append-nil, refl, sym, ◌∙◌, ap, subst, arith, eqb-true}
+use Rattle.std.proofs.Common.{◌≡◌, ◌≢◌, ◌⊎◌, inl, inr, ℕ, suc, ◌+◌, ◌<◌, ◌++◌, Bool, true, false, if◌then◌else◌, List, [], ◌∷◌, length, flat_map, AllPairs, Contains, Some, None, append-nil, refl, sym, ap, subst, arith}
 use Rattle.std.specs.Prelude.{slice_get}
 use Rattle.std.proofs.lemmas.Bool.{cases_eq}
 use Rattle.std.proofs.lemmas.List.Elements.{Contains-append_left, Contains-append_right}
-use Rattle.bm_term.proofs.Elements.{Contains-nil, Contains-single}
+use Rattle.bm_term.proofs.Elements.{Contains-single}
 use Rattle.alg_model.specs.declared.pattern.TriplePat.{TriplePat}
-use Rattle.alg_model.specs.Row.{Row, unbound, Extends}
+use Rattle.alg_model.specs.Row.{Row, Extends}
 use Rattle.alg_model.specs.Pattern.{triple_vars}
 use Rattle.alg_model.specs.Eval.{Interpretation}
-use Rattle.alg_model.specs.Solution.{Makes, TellsValues}
+use Rattle.alg_model.specs.Solution.{TellsValues}
 use Rattle.alg_model.proofs.Joins.{determined}
 use Rattle.alg_model.proofs.Lists.{Contains-flat_map, source-flat_map, once-flat_map}
 use Rattle.join_graph.specs.Core.{IsForest}
 use Rattle.join_graph.specs.Members.{OccursIn}
 use Rattle.pattern_tree.specs.Consistent.{IsConsistent}
-use Rattle.pattern_tree.specs.Solution.{Family, IsSolutionOf, IsPartialSolution}
+use Rattle.pattern_tree.specs.Solution.{Family}
 use Rattle.pattern_tree.specs.Standing.{StandsAt, OccursAt}
 use Rattle.pattern_tree.specs.Tree.{TreeNode, patterns_of}
 use Rattle.pattern_tree.proofs.Choices.{list_vars}
 use Rattle.pattern_tree.proofs.Connected.{by_occurs, occurs_by}
 use Rattle.pattern_tree.proofs.Standing.{patterns_of-stands}
 use Rattle.pattern_tree.proofs.Unions.{Extends-refl, Extends-trans}
-use Rattle.multiway_join.specs.FlatRows.{with_node, has_parent, ends, rows_from, flat_rows_of}
+use Rattle.multiway_join.specs.FlatRows.{with_node, has_parent, ends, rows_from}
 use Rattle.multiway_join.specs.JoinOrder.{AreInOrder}
 use Rattle.multiway_join.proofs.Complete.{HasParentsFirst}
 use Rattle.multiway_join.proofs.Ends.{ends_sound}
 use Rattle.multiway_join.proofs.Nodes.{with_cases, stands_here, here_stands}
-use Rattle.multiway_join.proofs.Sound.{TreeVarsBelow, AreFrom, first_place, rest_from, root_alone, after_end, after_root, nothing_solved, node_below, HasRoot, nodes_from}
+use Rattle.multiway_join.proofs.Sound.{TreeVarsBelow, AreFrom, first_place, rest_from, after_end, node_below, HasRoot}
 use Rattle.pruning_laws.specs.Matches.{AreMatches}
 use Rattle.minimality_laws.specs.SimpleTree.{sets_of}
-use Rattle.minimality_laws.proofs.Covering.{Blocks, IsTried, none_blocks, tried_root, tried_past, tried_taken}
-use Rattle.minimality_laws.proofs.Rising.{root_solved}
+use Rattle.minimality_laws.proofs.Covering.{Blocks, IsTried, none_blocks, tried_past, tried_taken}
 use Rattle.simple_join_laws.specs.EachOnce.{HasEachOnce}
 use Rattle.simple_join_laws.proofs.NodeEnds.{clean_ends, node_ends_once}
 

@@ -1,5 +1,5 @@
 -- The sets of a node, cut out of those of the whole tree.
-use Rattle.std.proofs.Common.{◌≡◌, ℕ, zero, suc, ◌+◌, ◌-◌, ◌<◌, ◌≤◌, ◌++◌, List, [], ◌∷◌, length, map, take, drop, Some, refl, sym, ◌∙◌, ap, subst, arith, append_assoc}
+use Rattle.std.proofs.Common.{◌≡◌, ℕ, zero, suc, ◌+◌, ◌-◌, ◌<◌, ◌≤◌, ◌++◌, List, [], ◌∷◌, length, map, take, Some, refl, sym, ◌∙◌, ap, arith, append_assoc}
 use Rattle.std.specs.List.Sorted.{IsNonDecreasing}
 use Rattle.std.specs.Prelude.{slice_get, slice_index, slice_index_or, slice_range}
 use Rattle.std.proofs.lemmas.List.{take_at, drop_at, length-append, length-map}

@@ -1,6 +1,5 @@
 use Rattle.std.proofs.Common.{arith, ◌∙◌, length, sym, zero-add}
 use Rattle.std.proofs.lemmas.List.{length-map}
-use Rattle.alg_model.specs.Pattern.{triple_patterns}
 use Rattle.pattern_tree.specs.Tree.{TreeNode, tree_of}
 use Rattle.pruning_laws.specs.SceneOf.{number_of}
 use Rattle.simple_tree_laws.specs.TreeSets.{sets_in}
