@@ -1,2 +1,3 @@
 pub mod Placed
 pub mod Matches
+pub mod steps

@@ -1,0 +1,95 @@
+-- Carries proofs only: a triple pattern by the numbers of its terms, the sides of its relation, and its pairs.
+use Rattle.std.specs.Prelude.{◌≡◌, ◌↔◌, ℕ, ◌<◌, List, Contains, Option, Some, None}
+use Rattle.alg_model.specs.declared.pattern.Place.{Place}
+use Rattle.alg_model.specs.declared.pattern.Place.TheVariants as places
+use Rattle.cube_slices.specs.Lines.{Line, pairs_of}
+use Rattle.term_numbers.specs.Numbering.{place_of}
+use Rattle.term_numbers.specs.Order.{Numbered}
+use Rattle.tree_relations.specs.declared.prepared.PlaceKind.{PlaceKind}
+use Rattle.tree_relations.specs.declared.prepared.PlaceKind.TheVariants.{Subject, Object, Predicate}
+use Rattle.tree_relations.specs.declared.prepared.SidePlace.{SidePlace}
+use Rattle.match_relations.specs.declared.part.Part.{Part}
+use Rattle.match_relations.specs.declared.part.Part.TheVariants.{Variable, Number}
+
+-- a place by number: a variable, or the place of a term among texts
+abbrev pub part_of : List (List ℕ) → Place → Part
+part_of texts (places.Var var) = Variable var
+part_of texts (places.Term text) = Number (place_of texts text)
+
+-- the place is a term that is not among the texts
+abbrev pub IsMissing : List (List ℕ) → Place → Type 0
+IsMissing texts (places.Var var) = ⊥
+IsMissing texts (places.Term text) = ¬ Contains texts text
+
+-- the number is below a count
+abbrev pub IsWithin : ℕ → Part → Type 0
+IsWithin count (Variable var) = Unit {0}
+IsWithin count (Number n) = n < count
+
+-- the part is this variable
+abbrev pub HasVar : Part → ℕ → Type 0
+HasVar (Variable var) v = var.0 ≡ v
+HasVar (Number n) v = ⊥
+
+-- the variable at the first side of the relation: that of the predicate, or of the subject, or of the object
+abbrev pub first_side : Part → Part → Part → Option SidePlace
+first_side s (Variable p) o = Some (record { kind = Predicate; var = p })
+first_side (Variable s) (Number p) o = Some (record { kind = Subject; var = s })
+first_side (Number s) (Number p) (Variable o) = Some (record { kind = Object; var = o })
+first_side (Number s) (Number p) (Number o) = None
+
+-- and at the second side, where there are two variables
+abbrev pub second_side : Part → Part → Part → Option SidePlace
+second_side (Variable s) (Variable p) o = Some (record { kind = Subject; var = s })
+second_side (Number s) (Variable p) (Variable o) = Some (record { kind = Object; var = o })
+second_side (Number s) (Variable p) (Number o) = None
+second_side (Variable s) (Number p) (Variable o) = Some (record { kind = Object; var = o })
+second_side (Variable s) (Number p) (Number o) = None
+second_side (Number s) (Number p) o = None
+
+-- the numbers of the triple that a pair stands for
+abbrev pub subject_at : Part → Part → ℕ × ℕ → ℕ
+subject_at (Number s) p pair = s
+subject_at (Variable s) (Variable p) pair = pair.1
+subject_at (Variable s) (Number p) pair = pair.0
+
+abbrev pub predicate_at : Part → ℕ × ℕ → ℕ
+predicate_at (Number p) pair = p
+predicate_at (Variable p) pair = pair.0
+
+abbrev pub object_at : Part → Part → Part → ℕ × ℕ → ℕ
+object_at s p (Number o) pair = o
+object_at (Number s) (Number p) (Variable o) pair = pair.0
+object_at (Number s) (Variable p) (Variable o) pair = pair.1
+object_at (Variable s) p (Variable o) pair = pair.1
+
+abbrev pub triple_of : Part → Part → Part → ℕ × ℕ → Numbered
+triple_of s p o pair = (subject_at s p pair, predicate_at p pair, object_at s p o pair)
+
+-- the number of a triple at a side, and 0 where the side has no variable
+abbrev pub number_at : PlaceKind → Numbered → ℕ
+number_at Subject t = t.0
+number_at Predicate t = t.1
+number_at Object t = t.2
+
+abbrev pub number_or_zero : Option SidePlace → Numbered → ℕ
+number_or_zero None t = 0
+number_or_zero (Some place) t = number_at place.kind t
+
+-- the pair of a triple
+abbrev pub pair_of_triple : Part → Part → Part → Numbered → ℕ × ℕ
+pair_of_triple s p o t = (number_or_zero (first_side s p o) t, number_or_zero (second_side s p o) t)
+
+-- where one variable is subject and object, the triple has one number at both, which is that of a shared term
+abbrev pub MeetsItself : ℕ → Part → Part → Numbered → Type 0
+MeetsItself shared s o t = (v : ℕ) → HasVar s v → HasVar o v → (t.0 ≡ t.2) × (t.0 < shared)
+
+-- the pair stands for one of the triples, and is the pair of that triple
+pub record IsPairOf (triples : List Numbered) (shared : ℕ) (s p o : Part) (pair : ℕ × ℕ) : Type 0 where
+  pub there : Contains triples (triple_of s p o pair)
+  pub again : pair_of_triple s p o (triple_of s p o pair) ≡ pair
+  pub itself : MeetsItself shared s o (triple_of s p o pair)
+
+-- the lines have just these pairs
+pub record Lists (triples : List Numbered) (shared : ℕ) (s p o : Part) (ls : List Line) : Type 0 where
+  pub pairs : (pair : ℕ × ℕ) → Contains (pairs_of ls) pair ↔ IsPairOf triples shared s p o pair

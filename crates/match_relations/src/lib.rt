@@ -1,0 +1,9 @@
+//! Relations for the triple patterns of a tree, borrowed from an index.
+//!
+//! [`prepare`] looks up the terms of each triple pattern, borrows the slice or the row of the index that has its matches,
+//! and takes all masks from one pool. The pairs of each relation stand for just the matches of its triple pattern
+//! (`specs/Matches`).
+#![tactic(auto)]
+
+mod part;
+mod shapes;
