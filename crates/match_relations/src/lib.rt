@@ -5,5 +5,6 @@
 //! (`specs/Matches`).
 #![tactic(auto)]
 
+mod borrowed;
 mod part;
 mod shapes;

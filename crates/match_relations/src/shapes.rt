@@ -4,7 +4,7 @@ ghost use Rattle.std.specs.Prelude.{◌≡◌, ◌≢◌, ◌↔◌, ◌<◌, []
 ghost use Rattle.alg_model.specs.declared.var.Var.{Var};
 ghost use Rattle.pattern_rel.specs.Shapes.{lines_of_shape, row_lines, numbers_or_none, KnowsColumns};
 ghost use Rattle.term_numbers.specs.Numbering.{all_objects, all_subjects};
-ghost use Rattle.match_relations.specs.steps.Parts.{IsWithin, Lists};
+ghost use Rattle.match_relations.specs.steps.Parts.{Lists};
 ghost use Rattle.match_relations.specs.declared.part.Part.TheVariants.{Variable, Number};
 
 use index_file::{Family, Index};
@@ -12,7 +12,7 @@ use pattern_rel::Shape;
 use run_rows::RowRef;
 
 /// Subjects and objects of a predicate.
-fn both_nodes<'a>(index: &Index<'a>, p: u32) -> Shape<'a>
+pub(crate) fn both_nodes<'a>(index: &Index<'a>, p: u32) -> Shape<'a>
     requires { p < length index.now.numbering.terms.predicates }
     ensures lists { (s o : Var) → s.0 ≢ o.0 → Lists index.now.numbering.triples (length index.now.numbering.terms.shared)
         (Variable s) (Number p) (Variable o) (lines_of_shape result) }
@@ -29,7 +29,7 @@ fn both_nodes<'a>(index: &Index<'a>, p: u32) -> Shape<'a>
 }
 
 /// Terms that a predicate has as subject and object at once.
-fn one_node<'a>(index: &Index<'a>, p: u32) -> Shape<'a>
+pub(crate) fn one_node<'a>(index: &Index<'a>, p: u32) -> Shape<'a>
     requires { p < length index.now.numbering.terms.predicates }
     ensures lists { (s o : Var) → s.0 ≡ o.0 → Lists index.now.numbering.triples (length index.now.numbering.terms.shared)
         (Variable s) (Number p) (Variable o) (lines_of_shape result) }
@@ -54,7 +54,7 @@ fn one_row<'a>(row: Option<RowRef<'a>>) -> Shape<'a>
 }
 
 /// Subjects of a predicate and an object.
-fn subjects<'a>(index: &Index<'a>, p: u32, o: u32) -> Shape<'a>
+pub(crate) fn subjects<'a>(index: &Index<'a>, p: u32, o: u32) -> Shape<'a>
     requires { p < length index.now.numbering.terms.predicates }
     ensures lists { (s : Var) → Lists index.now.numbering.triples (length index.now.numbering.terms.shared)
         (Variable s) (Number p) (Number o) (lines_of_shape result) }
@@ -64,7 +64,7 @@ fn subjects<'a>(index: &Index<'a>, p: u32, o: u32) -> Shape<'a>
 }
 
 /// Objects of a subject and a predicate.
-fn objects<'a>(index: &Index<'a>, s: u32, p: u32) -> Shape<'a>
+pub(crate) fn objects<'a>(index: &Index<'a>, s: u32, p: u32) -> Shape<'a>
     requires { p < length index.now.numbering.terms.predicates }
     ensures lists { (o : Var) → Lists index.now.numbering.triples (length index.now.numbering.terms.shared)
         (Number s) (Number p) (Variable o) (lines_of_shape result) }
@@ -74,7 +74,7 @@ fn objects<'a>(index: &Index<'a>, s: u32, p: u32) -> Shape<'a>
 }
 
 /// Predicates and subjects of an object.
-fn before_object<'a>(index: &Index<'a>, o: u32) -> Shape<'a>
+pub(crate) fn before_object<'a>(index: &Index<'a>, o: u32) -> Shape<'a>
     requires { o < length (all_objects index.now.numbering.terms) }
     ensures lists { (s p : Var) → Lists index.now.numbering.triples (length index.now.numbering.terms.shared)
         (Variable s) (Variable p) (Number o) (lines_of_shape result) }
@@ -87,7 +87,7 @@ fn before_object<'a>(index: &Index<'a>, o: u32) -> Shape<'a>
 }
 
 /// Predicates and objects of a subject.
-fn after_subject<'a>(index: &Index<'a>, s: u32) -> Shape<'a>
+pub(crate) fn after_subject<'a>(index: &Index<'a>, s: u32) -> Shape<'a>
     requires { s < length (all_subjects index.now.numbering.terms) }
     ensures lists { (p o : Var) → Lists index.now.numbering.triples (length index.now.numbering.terms.shared)
         (Number s) (Variable p) (Variable o) (lines_of_shape result) }
@@ -100,7 +100,7 @@ fn after_subject<'a>(index: &Index<'a>, s: u32) -> Shape<'a>
 }
 
 /// Predicates between a subject and an object.
-fn between<'a>(index: &Index<'a>, s: u32, o: u32) -> Shape<'a>
+pub(crate) fn between<'a>(index: &Index<'a>, s: u32, o: u32) -> Shape<'a>
     requires { o < length (all_objects index.now.numbering.terms) }
     ensures lists { (p : Var) → Lists index.now.numbering.triples (length index.now.numbering.terms.shared)
         (Number s) (Variable p) (Number o) (lines_of_shape result) }
@@ -135,7 +135,7 @@ fn ground_if<'a>(there: bool) -> Shape<'a>
 }
 
 /// The triple of a subject, a predicate and an object, if it is there.
-fn one_triple<'a>(index: &Index<'a>, s: u32, p: u32, o: u32) -> Shape<'a>
+pub(crate) fn one_triple<'a>(index: &Index<'a>, s: u32, p: u32, o: u32) -> Shape<'a>
     requires { p < length index.now.numbering.terms.predicates }
     ensures lists { Lists index.now.numbering.triples (length index.now.numbering.terms.shared)
         (Number s) (Number p) (Number o) (lines_of_shape result) }

@@ -1,13 +1,16 @@
 -- Carries proofs only: a triple pattern by the numbers of its terms, the sides of its relation, and its pairs.
-use Rattle.std.specs.Prelude.{◌≡◌, ◌↔◌, ℕ, ◌<◌, List, Contains, Option, Some, None}
+use Rattle.std.specs.Prelude.{◌≡◌, ◌↔◌, ℕ, ◌<◌, List, length, Contains, Option, Some, None}
 use Rattle.alg_model.specs.declared.pattern.Place.{Place}
 use Rattle.alg_model.specs.declared.pattern.Place.TheVariants as places
+use Rattle.alg_model.specs.declared.pattern.TriplePat.{TriplePat}
 use Rattle.cube_slices.specs.Lines.{Line, pairs_of}
-use Rattle.term_numbers.specs.Numbering.{place_of}
+use Rattle.pattern_rel.specs.Shapes.{lines_of_shape, KnowsColumns}
+use Rattle.term_numbers.specs.Numbering.{Terms, Numbering, all_objects, all_subjects, place_of}
 use Rattle.term_numbers.specs.Order.{Numbered}
 use Rattle.tree_relations.specs.declared.prepared.PlaceKind.{PlaceKind}
 use Rattle.tree_relations.specs.declared.prepared.PlaceKind.TheVariants.{Subject, Object, Predicate}
 use Rattle.tree_relations.specs.declared.prepared.SidePlace.{SidePlace}
+use Rattle.match_relations.specs.declared.borrowed.Borrowed.{Borrowed}
 use Rattle.match_relations.specs.declared.part.Part.{Part}
 use Rattle.match_relations.specs.declared.part.Part.TheVariants.{Variable, Number}
 
@@ -25,6 +28,11 @@ IsMissing texts (places.Term text) = ¬ Contains texts text
 abbrev pub IsWithin : ℕ → Part → Type 0
 IsWithin count (Variable var) = Unit {0}
 IsWithin count (Number n) = n < count
+
+-- what is found of a place among texts: its part, or that it is missing
+abbrev pub IsFound : List (List ℕ) → Place → Option Part → Type 0
+IsFound texts place None = IsMissing texts place
+IsFound texts place (Some part) = (part ≡ part_of texts place) × IsWithin (length texts) part
 
 -- the part is this variable
 abbrev pub HasVar : Part → ℕ → Type 0
@@ -93,3 +101,25 @@ pub record IsPairOf (triples : List Numbered) (shared : ℕ) (s p o : Part) (pai
 -- the lines have just these pairs
 pub record Lists (triples : List Numbered) (shared : ℕ) (s p o : Part) (ls : List Line) : Type 0 where
   pub pairs : (pair : ℕ × ℕ) → Contains (pairs_of ls) pair ↔ IsPairOf triples shared s p o pair
+
+-- the part of a triple pattern at each of its places
+abbrev pub subject_part : Terms → TriplePat → Part
+subject_part terms pattern = part_of (all_subjects terms) pattern.subject
+
+abbrev pub predicate_part : Terms → TriplePat → Part
+predicate_part terms pattern = part_of terms.predicates pattern.predicate
+
+abbrev pub object_part : Terms → TriplePat → Part
+object_part terms pattern = part_of (all_objects terms) pattern.object
+
+-- one of the parts is a term
+abbrev pub HasNumber : Part → Part → Part → Type 0
+HasNumber (Variable s) (Variable p) (Variable o) = ⊥
+HasNumber s p o = Unit {0}
+
+-- what is borrowed for a triple pattern: its sides, and lines that have just its pairs
+pub record IsBorrowed (n : Numbering) (pattern : TriplePat) (b : Borrowed) : Type 0 where
+  pub first : b.first ≡ first_side (subject_part n.terms pattern) (predicate_part n.terms pattern) (object_part n.terms pattern)
+  pub second : b.second ≡ second_side (subject_part n.terms pattern) (predicate_part n.terms pattern) (object_part n.terms pattern)
+  pub lists : Lists n.triples (length n.terms.shared) (subject_part n.terms pattern) (predicate_part n.terms pattern) (object_part n.terms pattern) (lines_of_shape b.shape)
+  pub knows : KnowsColumns b.shape
