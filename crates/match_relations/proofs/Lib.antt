@@ -1,2 +1,4 @@
+pub mod EntryLaws
 pub mod PartLaws
 pub mod ShapeLaws
+pub mod SideLaws
