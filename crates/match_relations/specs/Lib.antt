@@ -1,3 +1,3 @@
-pub mod Placed
+pub mod AcceptedTrees
 pub mod Matches
 pub mod steps

@@ -1,2 +1,4 @@
--- Carries proofs only: triple patterns by number, and their pairs.
+-- Carries proofs only: triple patterns by number, their pairs and masks, and the numbers of a tree.
+pub mod Masks
+pub mod Numbers
 pub mod Parts

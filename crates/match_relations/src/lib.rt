@@ -6,5 +6,7 @@
 #![tactic(auto)]
 
 mod borrowed;
+mod masks;
+mod numbered;
 mod part;
 mod shapes;

@@ -7,7 +7,7 @@ use Rattle.pattern_tree.specs.Tree.{TreeNode}
 use Rattle.well_designed.specs.Refusals.{HasThreeVariables}
 
 -- no triple pattern of the tree has three variables, and no variable stands at a predicate place and at a node place
-pub record IsPlaced (tree : List TreeNode) : Type 0 where
+pub record IsAcceptedTree (tree : List TreeNode) : Type 0 where
   pub no_three_places : (k : ℕ) (pattern : TriplePat) → StandsAt tree k pattern → ¬ HasThreeVariables pattern
   pub no_cross_place : (k j : ℕ) (pattern other : TriplePat) (var : ℕ) → StandsAt tree k pattern → StandsAt tree j other →
       IsVar pattern.predicate var → ¬ (IsVar other.subject var ⊎ IsVar other.object var)
