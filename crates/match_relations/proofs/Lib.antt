@@ -6,3 +6,4 @@ pub mod NumberLaws
 pub mod PartLaws
 pub mod ShapeLaws
 pub mod SideLaws
+pub mod TreeLaws

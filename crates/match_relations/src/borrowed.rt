@@ -1,11 +1,14 @@
 //! What a triple pattern borrows from an index.
 
-ghost use Rattle.std.specs.Prelude.{◌≡◌, ℕ, List, length, Some};
+ghost use Rattle.std.specs.Prelude.{◌≡◌, ◌≤◌, ℕ, List, length, IfOk, Some};
 ghost use Rattle.pattern_rel.specs.Shapes.{lines_of_shape, KnowsColumns};
 ghost use Rattle.term_numbers.specs.Numbering.{all_objects, all_subjects};
 ghost use Rattle.well_designed.specs.Refusals.{HasThreeVariables};
-ghost use Rattle.match_relations.specs.steps.Parts.{IsBorrowed, IsWithin, Lists, HasNumber, first_side, second_side, part_of, subject_part, predicate_part, object_part};
+ghost use Rattle.match_relations.specs.AcceptedTrees.{IsAcceptedTree};
+ghost use Rattle.match_relations.specs.steps.Numbers.{patterns_in, with_number};
+ghost use Rattle.match_relations.specs.steps.Parts.{AreBorrowed, IsBorrowedAt, IsBorrowed, IsWithin, Lists, HasNumber, first_side, second_side, part_of, subject_part, predicate_part, object_part};
 
+use crate::numbered::numbered;
 use crate::part::{Part, object_part, predicate_part, subject_part};
 use crate::shapes::{
     after_subject, before_object, between, both_nodes, objects, one_node, one_triple, subjects,
@@ -13,6 +16,8 @@ use crate::shapes::{
 use alg_model::{Place, TriplePat, Var};
 use index_file::Index;
 use pattern_rel::Shape;
+use pattern_tree::Tree;
+use std::alloc::{AllocError, Global};
 use tree_relations::{PlaceKind, SidePlace};
 
 /// What a triple pattern borrows from an index, and which variable stands at each side of it.
@@ -108,13 +113,49 @@ fn shape_of<'a>(index: &Index<'a>, pattern: &TriplePat) -> Shape<'a>
 }
 
 /// What a triple pattern borrows. It has no three variables.
-pub(crate) fn borrow_for<'a>(index: &Index<'a>, pattern: &TriplePat) -> Borrowed<'a>
+fn borrow_for<'a>(index: &Index<'a>, pattern: &TriplePat) -> Borrowed<'a>
     requires { ¬ HasThreeVariables pattern.now }
     ensures { IsBorrowed index.now.numbering pattern.now result }
 {
+    let shape = shape_of(index, pattern);
+    shape.lines_ascend();
     Borrowed {
-        shape: shape_of(index, pattern),
+        shape,
         first: first_side(pattern),
         second: second_side(pattern),
     }
+}
+
+/// What the triple pattern with a number borrows.
+fn borrow_numbered<'a>(tree: &Tree<'_>, index: &Index<'a>, number: u16) -> Borrowed<'a>
+    requires { IsAcceptedTree tree.now }
+    ensures { IsBorrowedAt index.now.numbering (with_number number (patterns_in tree.now)) result }
+{
+    match numbered(tree, number) {
+        Some(pattern) => borrow_for(index, pattern),
+        None => Borrowed {
+            shape: Shape::Nothing,
+            first: None,
+            second: None,
+        },
+    }
+}
+
+/// What the triple patterns of a tree borrow, by their numbers from 1 on.
+pub(crate) fn borrow_all<'a>(
+    alloc: Global,
+    tree: &Tree<'_>,
+    index: &Index<'a>,
+    count: u16,
+) -> Result<Vec<Borrowed<'a>>, AllocError>
+    requires accepted { IsAcceptedTree tree.now }
+    requires low { count ≤ 256 }
+    ensures count { IfOk result (λ all. length all.items ≡ count) }
+    ensures borrowed { IfOk result (λ all. AreBorrowed index.now.numbering (patterns_in tree.now) all.items) }
+{
+    let mut all = Vec::new(alloc);
+    for place in 0..count {
+        all.push(borrow_numbered(tree, index, place + 1))?;
+    }
+    Ok(all)
 }

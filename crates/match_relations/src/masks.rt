@@ -77,11 +77,11 @@ pub(crate) fn take_work(
     count: u32,
 ) -> Result<MaskList, AllocError>
     requires low { bits ≤ 2 ^ 23 }
-    requires room { count * words_for bits ≤ pool.old.spare }
+    requires room { words_for bits * count ≤ pool.old.spare }
     ensures count { IfOk result (λ work. length work ≡ count) }
     ensures bits { IfOk result (All (λ m. m.bits ≡ bits)) }
     ensures masks { IfOk result (AreMasks pool.new) }
-    ensures spare { OnOk result (pool.new.spare + count * words_for bits ≡ pool.old.spare) }
+    ensures spare { OnOk result (pool.new.spare + words_for bits * count ≡ pool.old.spare) }
 {
     let mut work = MaskList::new(alloc);
     for _ in 0..count {

@@ -1,9 +1,9 @@
 -- Carries proofs only: a triple pattern by the numbers of its terms, the sides of its relation, and its pairs.
-use Rattle.std.specs.Prelude.{◌≡◌, ◌↔◌, ℕ, ◌<◌, List, length, Contains, Option, Some, None}
+use Rattle.std.specs.Prelude.{◌≡◌, ◌↔◌, ℕ, ◌+◌, ◌-◌, ◌^◌, ◌<◌, List, [], length, Contains, Option, Some, None, slice_get}
 use Rattle.alg_model.specs.declared.pattern.Place.{Place}
 use Rattle.alg_model.specs.declared.pattern.Place.TheVariants as places
 use Rattle.alg_model.specs.declared.pattern.TriplePat.{TriplePat}
-use Rattle.cube_slices.specs.Lines.{Line, pairs_of}
+use Rattle.cube_slices.specs.Lines.{Line, LinesAscend, pairs_of}
 use Rattle.pattern_rel.specs.Shapes.{lines_of_shape, KnowsColumns}
 use Rattle.term_numbers.specs.Numbering.{Terms, Numbering, all_objects, all_subjects, place_of}
 use Rattle.term_numbers.specs.Order.{Numbered}
@@ -13,6 +13,7 @@ use Rattle.tree_relations.specs.declared.prepared.SidePlace.{SidePlace}
 use Rattle.match_relations.specs.declared.borrowed.Borrowed.{Borrowed}
 use Rattle.match_relations.specs.declared.part.Part.{Part}
 use Rattle.match_relations.specs.declared.part.Part.TheVariants.{Variable, Number}
+use Rattle.match_relations.specs.steps.Numbers.{with_number}
 
 -- a place by number: a variable, or the place of a term among texts
 abbrev pub part_of : List (List ℕ) → Place → Part
@@ -123,3 +124,19 @@ pub record IsBorrowed (n : Numbering) (pattern : TriplePat) (b : Borrowed) : Typ
   pub second : b.second ≡ second_side (subject_part n.terms pattern) (predicate_part n.terms pattern) (object_part n.terms pattern)
   pub lists : Lists n.triples (length n.terms.shared) (subject_part n.terms pattern) (predicate_part n.terms pattern) (object_part n.terms pattern) (lines_of_shape b.shape)
   pub knows : KnowsColumns b.shape
+  pub ascend : LinesAscend 0 (2 ^ 32 - 1) (2 ^ 32 - 1) (lines_of_shape b.shape)
+
+-- what is borrowed where there is no triple pattern: nothing
+pub record BorrowsNothing (b : Borrowed) : Type 0 where
+  pub first : b.first ≡ None
+  pub second : b.second ≡ None
+  pub lines : lines_of_shape b.shape ≡ []
+  pub knows : KnowsColumns b.shape
+
+abbrev pub IsBorrowedAt : Numbering → Option TriplePat → Borrowed → Type 0
+IsBorrowedAt n None b = BorrowsNothing b
+IsBorrowedAt n (Some pattern) b = IsBorrowed n pattern b
+
+-- what is borrowed for the numbers from 1 on
+abbrev pub AreBorrowed : Numbering → List TriplePat → List Borrowed → Type 0
+AreBorrowed n patterns bs = (i : ℕ) (b : Borrowed) → slice_get bs i ≡ Some b → IsBorrowedAt n (with_number (i + 1) patterns) b
