@@ -1,4 +1,5 @@
 pub mod EntryLaws
+pub mod LimitLaws
 pub mod MaskLaws
 pub mod MeetsLaws
 pub mod NameLaws
