@@ -1,5 +1,6 @@
 pub mod EntryLaws
 pub mod LimitLaws
+pub mod MadeLaws
 pub mod MaskLaws
 pub mod MeetsLaws
 pub mod NameLaws

@@ -69,7 +69,7 @@ as_long (suc k) xs all =
     let less = shorter k xs (all k (omega arith)) in
     omega arith
 
-few_triples : (n : Numbering) → NumbersSomeGraph n → length n.triples ≤ 2 ^ 23
+pub few_triples : (n : Numbering) → NumbersSomeGraph n → length n.triples ≤ 2 ^ 23
 few_triples n some =
     let all = map (numbers_in (terms_of some.graph)) some.graph in
     let is = ap (λ (m : Numbering). length m.triples) some.numbers.numbered in

@@ -9,4 +9,7 @@ mod borrowed;
 mod masks;
 mod numbered;
 mod part;
+mod preparing;
 mod shapes;
+
+pub use preparing::prepare;
