@@ -2,6 +2,7 @@ pub mod EntryLaws
 pub mod LimitLaws
 pub mod MadeLaws
 pub mod MaskLaws
+pub mod MatchLaws
 pub mod MeetsLaws
 pub mod NameLaws
 pub mod NumberLaws

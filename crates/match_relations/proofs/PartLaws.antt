@@ -1,5 +1,5 @@
 -- A term has one number, and the numbers of triples are those of terms.
-use Rattle.std.proofs.Common.{◌≡◌, ◌↔◌, ℕ, ◌+◌, ◌<◌, ◌≤◌, List, [], ◌∷◌, length, Bool, true, false, cond, not, bytes_eq, Contains, Some, slice_get, refl, sym, ap, subst, arith}
+use Rattle.std.proofs.Common.{◌≡◌, ◌↔◌, ℕ, ◌+◌, ◌<◌, ◌≤◌, List, [], ◌∷◌, length, get_or, Bool, true, false, cond, not, bytes_eq, Contains, Some, slice_get, refl, sym, ap, subst, arith}
 use Rattle.std.specs.Cmp.Lexicographic.{same_text}
 use Rattle.alg_model.specs.declared.pattern.Place.{Place}
 use Rattle.alg_model.specs.declared.pattern.Place.TheVariants as places
@@ -45,6 +45,15 @@ missing_place (y ∷ texts) x none = by (bytes_eq x y) refl (missing_place texts
     by : (b : Bool) → bytes_eq x y ≡ b → length texts ≤ place_of texts x → length (y ∷ texts) ≤ cond (not b) (1 + place_of texts x) 0
     by true e rest = absurd (none (subst (Contains (y ∷ texts)) (sym (same_text x y (sym e))) (Contains-head y texts)))
     by false e rest = omega arith
+
+-- a text that has a place stands there
+pub place_holds : (texts : List (List ℕ)) (x : List ℕ) → place_of texts x < length texts → get_or texts (place_of texts x) [] ≡ x
+place_holds [] x low = absurd (omega arith)
+place_holds (y ∷ texts) x low = by (bytes_eq x y) refl (λ rest. place_holds texts x rest) low
+  where
+    by : (b : Bool) → bytes_eq x y ≡ b → (place_of texts x < length texts → get_or texts (place_of texts x) [] ≡ x) → cond (not b) (1 + place_of texts x) 0 < length (y ∷ texts) → get_or (y ∷ texts) (cond (not b) (1 + place_of texts x) 0) [] ≡ x
+    by true e rest low = sym (same_text x y (sym e))
+    by false e rest low = rest (omega arith)
 
 -- where a term is missing, no pair stands for a triple
 module _ (n : Numbering) (some : NumbersSomeGraph n) where

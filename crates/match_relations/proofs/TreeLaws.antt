@@ -1,5 +1,5 @@
 -- The triple patterns of a tree, and what is borrowed for them.
-use Rattle.std.proofs.Common.{◌≡◌, ◌⊎◌, ℕ, zero, suc, ◌+◌, ◌<◌, ◌≤◌, ◌++◌, inl, inr, List, [], ◌∷◌, length, Contains, Option, Some, None, slice_get, refl, sym, ap, ◌∙◌, subst, arith}
+use Rattle.std.proofs.Common.{◌≡◌, ◌⊎◌, ℕ, zero, suc, ◌+◌, ◌<◌, ◌≤◌, ◌++◌, inl, inr, List, [], ◌∷◌, length, All, Contains, Option, Some, None, slice_get, refl, sym, ap, ◌∙◌, subst, arith}
 use Rattle.std.specs.Option.{option_map}
 use Rattle.std.proofs.lemmas.List.Elements.{Contains-get_or}
 use Rattle.std.proofs.lemmas.Option.{slice_get-get_or, slice_get_within, get_or_from_slice_get}
@@ -11,6 +11,8 @@ use Rattle.pattern_tree.specs.Tree.{TreeNode}
 use Rattle.pattern_tree.proofs.Nodes.{at_either}
 use Rattle.term_numbers.specs.Numbering.{Numbering}
 use Rattle.well_designed.specs.Refusals.{HasThreeVariables}
+use Rattle.index_file.proofs.StoredLaws.{All-members}
+use Rattle.pattern_rel.specs.Shapes.{KnowsColumns}
 use Rattle.match_relations.specs.AcceptedTrees.{IsAcceptedTree}
 use Rattle.match_relations.specs.declared.borrowed.Borrowed.{Borrowed}
 use Rattle.match_relations.specs.steps.Numbers.{patterns_in, with_number}
@@ -57,3 +59,12 @@ borrow_one n patterns bs more b k is long are one i c at =
 
 pub none_borrowed : (n : Numbering) (patterns : List TriplePat) → AreBorrowed n patterns []
 none_borrowed n patterns i b at = cc
+
+-- what is borrowed knows its columns
+pub all_known : (n : Numbering) (patterns : List TriplePat) (bs : List Borrowed) → AreBorrowed n patterns bs → All (λ (b : Borrowed). KnowsColumns b.shape) bs
+all_known n patterns bs are = All-members (λ (b : Borrowed). KnowsColumns b.shape) bs (λ b at.
+    by (with_number (at.0 + 1) patterns) b (are at.0 b (slice_get-get_or bs at.0 b at.1 ∙ ap Some at.2)))
+  where
+    by : (found : Option TriplePat) (b : Borrowed) → IsBorrowedAt n found b → KnowsColumns b.shape
+    by None b is = is.knows
+    by (Some pattern) b is = is.knows
