@@ -1,9 +1,9 @@
 -- The pairs of what is made for a tree stand for just the matches of its triple patterns.
-use Rattle.std.proofs.Common.{◌≡◌, ◌↔◌, ◌⊎◌, ℕ, ◌+◌, ◌-◌, ◌<◌, ◌≤◌, ◌++◌, inl, inr, Bool, true, false, List, [], ◌∷◌, length, get_or, map, filter, All, Contains, Option, Some, None, slice_get, nat_lt, if◌then◌else◌, refl, sym, ap, ◌∙◌, subst, arith, lt-ltb}
+use Rattle.std.proofs.Common.{◌≡◌, ◌↔◌, ◌⊎◌, ℕ, ◌+◌, ◌-◌, ◌<◌, ◌≤◌, ◌++◌, inl, inr, Bool, true, false, List, [], ◌∷◌, length, get_or, map, filter, All, Contains, Option, Some, None, slice_get, nat_lt, if◌then◌else◌, refl, sym, ap, ◌∙◌, subst, arith, length-append}
 use Rattle.std.proofs.lemmas.Bool.{ltb-true, ltb-false, and_from}
-use Rattle.std.proofs.lemmas.List.Elements.{All-contains, Contains-get_or}
-use Rattle.std.proofs.lemmas.Option.{slice_get-get_or, get_or_from_slice_get}
-use Rattle.bm_term.proofs.Elements.{Contains-nil}
+use Rattle.std.proofs.lemmas.List.Elements.{All-contains, Contains-get_or, Contains-append_right}
+use Rattle.std.proofs.lemmas.Option.{slice_get_within, get_or_from_slice_get}
+use Rattle.bm_term.proofs.Elements.{Contains-head, Contains-tail, Contains-nil}
 use Rattle.bm_term.specs.declared.triple.Triple.{Triple}
 use Rattle.alg_model.specs.declared.pattern.Place.{Place}
 use Rattle.alg_model.specs.declared.pattern.Place.TheVariants as places
@@ -12,7 +12,11 @@ use Rattle.alg_model.specs.Eval.{as_terms, match_of}
 use Rattle.alg_model.specs.Pattern.{Bgp, HasVarsBelow, IsVar, triple_vars}
 use Rattle.alg_model.proofs.Lists.{Contains-flat_map}
 use Rattle.cube_slices.specs.Lines.{pairs_of}
-use Rattle.index_file.specs.Stored.{Stored}
+use Rattle.mask_pool.specs.Mask.{Stretch}
+use Rattle.mask_pool.specs.Region.{words_of}
+use Rattle.match_relations.specs.declared.borrowed.Borrowed.{Borrowed}
+use Rattle.match_relations.specs.steps.Masks.{IsFull, kind_count, masks_in, side_bits}
+use Rattle.index_file.specs.Stored.{Stored, counts_of}
 use Rattle.index_file.specs.Version.{NumbersGraph}
 use Rattle.index_file.proofs.NamingLaws.{numbered_again}
 use Rattle.pattern_rel.specs.Left.{pairs_left, is_in, is_left}
@@ -20,7 +24,7 @@ use Rattle.pattern_rel.proofs.PairLaws.{is_in-has}
 use Rattle.pattern_tree.specs.Solution.{all_matches}
 use Rattle.pattern_tree.specs.Standing.{StandsAt}
 use Rattle.pattern_tree.specs.Tree.{TreeNode}
-use Rattle.pruning_laws.specs.Shown.{entry_of, shown}
+use Rattle.pruning_laws.specs.Shown.{entry_of, shown, TellItems}
 use Rattle.term_numbers.specs.Numbering.{Terms, Numbering, all_subjects, all_objects, place_of, numbers_in, named}
 use Rattle.term_numbers.specs.Order.{Numbered}
 use Rattle.term_numbers.proofs.EntryLaws.{Contains-filter, filter-Contains}
@@ -30,7 +34,7 @@ use Rattle.tree_relations.specs.declared.prepared.PlaceKind.{PlaceKind}
 use Rattle.tree_relations.specs.declared.prepared.PlaceKind.TheVariants.{Subject, Object, Predicate}
 use Rattle.tree_relations.specs.declared.prepared.Prepared.{Prepared}
 use Rattle.tree_relations.specs.declared.prepared.SidePlace.{SidePlace}
-use Rattle.tree_relations.specs.Readings.{NumberTriple, part_at, value_of, lists_left, ReadsSide, IsReading}
+use Rattle.tree_relations.specs.Readings.{NumberTriple, part_at, value_of, left_of, lists_left, ReadsSide, IsReading}
 use Rattle.match_relations.specs.AcceptedTrees.{IsAcceptedTree}
 use Rattle.match_relations.specs.Matches.{AreValuesOf, HasMatches}
 use Rattle.match_relations.specs.declared.part.Part.{Part}
@@ -119,3 +123,101 @@ has_part texts place v = (has_var texts place v).1
 
 part_has : (texts : List (List ℕ)) (place : Place) (v : ℕ) → IsVar place v → HasVar (part_of texts place) v
 part_has texts place v = (has_var texts place v).0
+
+-- ---- what is made for a tree
+
+module _ (s : Stored) (tree : List TreeNode) (p : Prepared) (accepted : IsAcceptedTree tree) (made : IsMade s tree p) where
+  abbrev numbering : Numbering
+  numbering = s.numbering
+
+  order : IsInOrder numbering
+  order = in_order numbering made.some
+
+  -- the numbers that a pair stands for
+  abbrev by_pattern : Option TriplePat → ℕ × ℕ → Numbered
+  by_pattern None pair = (0, 0, 0)
+  by_pattern (Some pattern) pair = triple_of (subject_part numbering.terms pattern) (predicate_part numbering.terms pattern) (object_part numbering.terms pattern) pair
+
+  abbrev value_triple : ℕ → ℕ × ℕ → NumberTriple
+  value_triple i pair = valued p (by_pattern (with_number (i + 1) (patterns_in tree)) pair)
+
+  -- ---- it reads the sides
+
+  reads_side : (side : Option SidePlace) (k : ℕ) (u : Numbered) → number_or_zero side u ≡ k → ReadsSide p side k (valued p u)
+  reads_side None k u is = tt
+  reads_side (Some place) k u is = part_valued p u place.kind ∙ ap (value_of p place.kind) is
+
+  reads_first : (found : Option TriplePat) (e : Entry) (pair : ℕ × ℕ) → made_laws.IsEntryForSome s tree p accepted made found e → Contains (pairs_of e.rel.lines) pair → ReadsSide p e.first pair.0 (valued p (by_pattern found pair))
+  reads_first None e pair is at = rw is.first tt
+  reads_first (Some pattern) e pair is at =
+      let own = (is.lists.pairs pair).0 at in
+      subst (λ side. ReadsSide p side pair.0 (valued p (by_pattern (Some pattern) pair))) (sym is.first) (reads_side _ pair.0 (by_pattern (Some pattern) pair) (ap (λ (x : ℕ × ℕ). x.0) own.again))
+
+  reads_second : (found : Option TriplePat) (e : Entry) (pair : ℕ × ℕ) → made_laws.IsEntryForSome s tree p accepted made found e → Contains (pairs_of e.rel.lines) pair → ReadsSide p e.second pair.1 (valued p (by_pattern found pair))
+  reads_second None e pair is at = rw is.second tt
+  reads_second (Some pattern) e pair is at =
+      let own = (is.lists.pairs pair).0 at in
+      subst (λ side. ReadsSide p side pair.1 (valued p (by_pattern (Some pattern) pair))) (sym is.second) (reads_side _ pair.1 (by_pattern (Some pattern) pair) (ap (λ (x : ℕ × ℕ). x.1) own.again))
+
+  reading : IsReading p value_triple
+  reading = record {
+    first = λ i e pair stands at. reads_first (with_number (i + 1) (patterns_in tree)) e pair (made_laws.entry_at s tree p accepted made i e stands) at;
+    second = λ i e pair stands at. reads_second (with_number (i + 1) (patterns_in tree)) e pair (made_laws.entry_at s tree p accepted made i e stands) at;
+  }
+
+  -- ---- all pairs are left
+
+  low_side : (side : Option SidePlace) (u : Numbered) (k : ℕ) → Contains numbering.triples u → number_or_zero side u ≡ k → k < side_bits (counts_of s) side
+  low_side None u k at is = omega (arith, order.uses.predicate u at)
+  low_side (Some place) u k at is = subst (λ k. k < kind_count (counts_of s) place.kind) is (by place.kind)
+    where
+      by : (kind : PlaceKind) → number_at kind u < kind_count (counts_of s) kind
+      by Subject = omega (arith, order.uses.subject u at, length-append numbering.terms.shared numbering.terms.subjects)
+      by Object = omega (arith, order.uses.object u at, length-append numbering.terms.shared numbering.terms.objects)
+      by Predicate = order.uses.predicate u at
+
+  low_pair : (found : Option TriplePat) (b : Borrowed) (e : Entry) (pair : ℕ × ℕ) → made_laws.IsOf s tree p accepted made b e → made_laws.IsEntryForSome s tree p accepted made found e → Contains (pairs_of e.rel.lines) pair →
+      (pair.0 < e.rel.first.bits) × (pair.1 < e.rel.second.bits)
+  low_pair None b e pair own is at = absurd (Contains-nil pair (subst (λ ls. Contains (pairs_of ls) pair) is.lines at))
+  low_pair (Some pattern) b e pair own is at =
+      let one = (is.lists.pairs pair).0 at in
+      let u = by_pattern (Some pattern) pair in
+      let first = low_side _ u pair.0 one.there (ap (λ (x : ℕ × ℕ). x.0) one.again) in
+      let second = low_side _ u pair.1 one.there (ap (λ (x : ℕ × ℕ). x.1) one.again) in
+      (subst (λ k. pair.0 < k) (sym (own.first_bits ∙ ap (side_bits (counts_of s)) (sym own.first ∙ is.first))) first,
+       subst (λ k. pair.1 < k) (sym (own.second_bits ∙ ap (side_bits (counts_of s)) (sym own.second ∙ is.second))) second)
+
+  all_left : (i : ℕ) (e : Entry) (pair : ℕ × ℕ) → slice_get p.entries i ≡ Some e → Contains (lists_left p i) pair ↔ Contains (pairs_of e.rel.lines) pair
+  all_left i e pair stands =
+      let firsts = words_of p.pool e.rel.first in
+      let seconds = words_of p.pool e.rel.second in
+      let is : lists_left p i ≡ pairs_left p.pool e.rel = ap (left_of p) stands in
+      let there : Contains p.entries e = subst (Contains p.entries) (get_or_from_slice_get p.entries i e e stands) (Contains-get_or p.entries i e (slice_get_within p.entries i e stands)) in
+      let own : List Stretch = e.rel.first ∷ e.rel.second ∷ [] in
+      let mask = λ (m : Stretch) (at : Contains own m).
+          All-contains (IsFull p.pool) (p.work ++ masks_in p.entries) m made.masks.full (Contains-append_right p.work (masks_in p.entries) m (Contains-flat_map (λ (e : Entry). e.rel.first ∷ e.rel.second ∷ []) p.entries e m there at)) in
+      (λ at. (Contains-filter (is_left firsts seconds) (pairs_of e.rel.lines) pair (subst (λ l. Contains l pair) is at)).0,
+       λ at.
+           let b = made_laws.borrowed_at s tree p accepted made i e stands in
+           let low = low_pair (with_number (i + 1) (patterns_in tree)) b.0 e pair b.2 (made_laws.entry_at s tree p accepted made i e stands) at in
+           let first = (is_in-has firsts pair.0).1 (mask e.rel.first (Contains-head e.rel.first (e.rel.second ∷ [])) pair.0 low.0) in
+           let second = (is_in-has seconds pair.1).1 (mask e.rel.second (Contains-tail e.rel.first (e.rel.second ∷ []) e.rel.second (Contains-head e.rel.second [])) pair.1 low.1) in
+           subst (λ l. Contains l pair) (sym is) (filter-Contains (is_left firsts seconds) (pairs_of e.rel.lines) pair at (and_from (is_in firsts pair.0) (is_in seconds pair.1) first second)))
+
+  -- ---- no two pairs of a relation stand for one triple
+
+  apart_in : (found : Option TriplePat) (e : Entry) (x y : ℕ × ℕ) → made_laws.IsEntryForSome s tree p accepted made found e → Contains (pairs_of e.rel.lines) x → Contains (pairs_of e.rel.lines) y → valued p (by_pattern found x) ≡ valued p (by_pattern found y) → x ≡ y
+  apart_in None e x y is at_x at_y same = absurd (Contains-nil x (subst (λ ls. Contains (pairs_of ls) x) is.lines at_x))
+  apart_in (Some pattern) e x y is at_x at_y same =
+      let first = ((is.lists.pairs x).0 at_x).again in
+      let second = ((is.lists.pairs y).0 at_y).again in
+      let one = valued_once p (by_pattern (Some pattern) x) (by_pattern (Some pattern) y) same in
+      sym first ∙ ap (pair_of_triple (subject_part numbering.terms pattern) (predicate_part numbering.terms pattern) (object_part numbering.terms pattern)) one ∙ second
+
+  apart : TellItems value_triple (lists_left p)
+  apart i x y at_x at_y same = by (slice_get p.entries i) refl at_x
+    where
+      by : (o : Option Entry) → slice_get p.entries i ≡ o → Contains (left_of p o) x → x ≡ y
+      by None is at = absurd (Contains-nil x at)
+      by (Some e) is at =
+          apart_in (with_number (i + 1) (patterns_in tree)) e x y (made_laws.entry_at s tree p accepted made i e is) ((all_left i e x is).0 at_x) ((all_left i e y is).0 at_y) same

@@ -1,5 +1,5 @@
 -- A term has one number, and the numbers of triples are those of terms.
-use Rattle.std.proofs.Common.{◌≡◌, ◌↔◌, ℕ, ◌+◌, ◌<◌, ◌≤◌, List, [], ◌∷◌, length, get_or, Bool, true, false, cond, not, bytes_eq, Contains, Some, slice_get, refl, sym, ap, subst, arith}
+use Rattle.std.proofs.Common.{◌≡◌, ◌↔◌, ℕ, suc, ◌+◌, ◌<◌, ◌≤◌, List, [], ◌∷◌, length, get_or, Bool, true, false, cond, not, bytes_eq, Contains, Some, slice_get, refl, sym, ap, ◌∙◌, subst, arith}
 use Rattle.std.specs.Cmp.Lexicographic.{same_text}
 use Rattle.alg_model.specs.declared.pattern.Place.{Place}
 use Rattle.alg_model.specs.declared.pattern.Place.TheVariants as places
@@ -53,7 +53,9 @@ place_holds (y ∷ texts) x low = by (bytes_eq x y) refl (λ rest. place_holds t
   where
     by : (b : Bool) → bytes_eq x y ≡ b → (place_of texts x < length texts → get_or texts (place_of texts x) [] ≡ x) → cond (not b) (1 + place_of texts x) 0 < length (y ∷ texts) → get_or (y ∷ texts) (cond (not b) (1 + place_of texts x) 0) [] ≡ x
     by true e rest low = sym (same_text x y (sym e))
-    by false e rest low = rest (omega arith)
+    by false e rest low =
+        let next : 1 + place_of texts x ≡ suc (place_of texts x) = omega arith in
+        ap (λ i. get_or (y ∷ texts) i []) next ∙ rest (omega arith)
 
 -- where a term is missing, no pair stands for a triple
 module _ (n : Numbering) (some : NumbersSomeGraph n) where

@@ -59,5 +59,6 @@ pub fn prepare<'a>(
     ensures matches { IfOk result (HasMatches index.now.numbering tree.now) }
     ensures spare { IfOk result (λ p. p.pool.spare ≡ 0) }
 {
-    made(alloc, tree, index)
+    let prepared = made(alloc, tree, index)?;
+    Ok(prepared)
 }
