@@ -1,8 +1,9 @@
 -- The pairs of what is made for a tree stand for just the matches of its triple patterns.
-use Rattle.std.proofs.Common.{◌≡◌, ◌↔◌, ◌⊎◌, ℕ, ◌+◌, ◌-◌, ◌<◌, ◌≤◌, ◌++◌, inl, inr, Bool, true, false, List, [], ◌∷◌, length, get_or, map, filter, All, Contains, Option, Some, None, slice_get, nat_lt, if◌then◌else◌, refl, sym, ap, ◌∙◌, subst, arith, length-append}
+use Rattle.std.proofs.Common.{◌≡◌, ◌↔◌, ◌⊎◌, ℕ, ◌+◌, ◌-◌, ◌<◌, ◌≤◌, ◌++◌, inl, inr, Bool, true, false, List, [], ◌∷◌, length, get_or, map, filter, All, Contains, Option, Some, None, is_some, slice_get, nat_lt, if◌then◌else◌, refl, sym, ap, ◌∙◌, subst, arith, length-append}
 use Rattle.std.proofs.lemmas.Bool.{ltb-true, ltb-false, and_from}
-use Rattle.std.proofs.lemmas.List.Elements.{All-contains, Contains-get_or, Contains-append_right}
-use Rattle.std.proofs.lemmas.Option.{slice_get_within, get_or_from_slice_get}
+use Rattle.std.proofs.lemmas.List.Elements.{All-contains, Contains-get_or, Contains-append_left, Contains-append_right}
+use Rattle.std.proofs.lemmas.List.{get_or_append_left}
+use Rattle.std.proofs.lemmas.Option.{slice_get-get_or, slice_get_within, get_or_from_slice_get}
 use Rattle.bm_term.proofs.Elements.{Contains-head, Contains-tail, Contains-nil}
 use Rattle.bm_term.specs.declared.triple.Triple.{Triple}
 use Rattle.alg_model.specs.declared.pattern.Place.{Place}
@@ -10,6 +11,7 @@ use Rattle.alg_model.specs.declared.pattern.Place.TheVariants as places
 use Rattle.alg_model.specs.declared.pattern.TriplePat.{TriplePat}
 use Rattle.alg_model.specs.Eval.{as_terms, match_of}
 use Rattle.alg_model.specs.Pattern.{Bgp, HasVarsBelow, IsVar, triple_vars}
+use Rattle.alg_model.proofs.BasicPatterns.{AreBelow}
 use Rattle.alg_model.proofs.Lists.{Contains-flat_map}
 use Rattle.cube_slices.specs.Lines.{pairs_of}
 use Rattle.mask_pool.specs.Mask.{Stretch}
@@ -41,7 +43,7 @@ use Rattle.match_relations.specs.declared.part.Part.{Part}
 use Rattle.match_relations.specs.declared.part.Part.TheVariants.{Variable, Number}
 use Rattle.match_relations.specs.steps.Made.{IsMade}
 use Rattle.match_relations.specs.steps.Numbers.{patterns_in, with_number}
-use Rattle.match_relations.specs.steps.Parts.{part_of, HasVar, HasNumber, subject_at, predicate_at, object_at, IsPairOf, first_side, second_side, number_at, number_or_zero, triple_of, pair_of_triple, subject_part, predicate_part, object_part}
+use Rattle.match_relations.specs.steps.Parts.{part_of, HasVar, HasNumber, subject_at, predicate_at, object_at, IsPairOf, MeetsItself, first_side, second_side, number_at, number_or_zero, triple_of, pair_of_triple, subject_part, predicate_part, object_part}
 use Rattle.match_relations.proofs.EntryLaws.{at_side}
 use Rattle.match_relations.proofs.MadeLaws as made_laws
 use Rattle.match_relations.proofs.MeetsLaws.{MeetsPlace, Meets, match_meets, meets_match}
@@ -123,6 +125,11 @@ has_part texts place v = (has_var texts place v).1
 
 part_has : (texts : List (List ℕ)) (place : Place) (v : ℕ) → IsVar place v → HasVar (part_of texts place) v
 part_has texts place v = (has_var texts place v).0
+
+-- a shared term is the same as subject and as object
+one_text : (terms : Terms) (i j : ℕ) → i ≡ j → i < length terms.shared → get_or (all_subjects terms) i [] ≡ get_or (all_objects terms) j []
+one_text terms i j same low =
+    get_or_append_left terms.shared terms.subjects [] i low ∙ sym (get_or_append_left terms.shared terms.objects [] i low) ∙ ap (λ k. get_or (all_objects terms) k []) same
 
 -- ---- what is made for a tree
 
@@ -221,3 +228,107 @@ module _ (s : Stored) (tree : List TreeNode) (p : Prepared) (accepted : IsAccept
       by None is at = absurd (Contains-nil x at)
       by (Some e) is at =
           apart_in (with_number (i + 1) (patterns_in tree)) e x y (made_laws.entry_at s tree p accepted made i e is) ((all_left i e x is).0 at_x) ((all_left i e y is).0 at_y) same
+
+  -- ---- the pairs of a triple pattern stand for its matches
+
+  module _ (graph : List Triple) (n k : ℕ) (pattern : TriplePat) (t : Triple) (is : NumbersGraph graph numbering) (stands : StandsAt tree k pattern) (below : HasVarsBelow n (Bgp (pattern ∷ []))) where
+    abbrev terms : Terms
+    terms = numbering.terms
+
+    abbrev sp : Part
+    sp = subject_part terms pattern
+
+    abbrev qp : Part
+    qp = predicate_part terms pattern
+
+    abbrev op : Part
+    op = object_part terms pattern
+
+    abbrev i : ℕ
+    i = entry_of pattern
+
+    entry : (e : Entry) × (slice_get p.entries i ≡ Some e) × made_laws.IsEntryFor s tree p accepted made pattern e
+    entry = made_laws.pattern_entry s tree p accepted made k pattern stands
+
+    value_is : (pair : ℕ × ℕ) → value_triple i pair ≡ valued p (triple_of sp qp op pair)
+    value_is pair = ap (λ found. valued p (by_pattern found pair)) (made_laws.found_pattern s tree p accepted made k pattern stands)
+
+    listed : (pair : ℕ × ℕ) → Contains (lists_left p i) pair ↔ IsPairOf numbering.triples (length terms.shared) sp qp op pair
+    listed pair =
+        let left = all_left i entry.0 pair entry.1 in
+        let lists = entry.2.lists.pairs pair in
+        (λ at. lists.0 (left.0 at), λ own. left.1 (lists.1 own))
+
+    low_vars : AreBelow n (triple_vars pattern)
+    low_vars v at = All-contains (λ v. v < n) (triple_vars pattern ++ []) v below (Contains-append_left (triple_vars pattern) [] v at)
+
+    no_cross : (v : ℕ) → IsVar pattern.predicate v → IsVar pattern.subject v ⊎ IsVar pattern.object v → ⊥
+    no_cross v predicate node = accepted.no_cross_place k k pattern pattern v stands stands predicate node
+
+    -- the triple that a pair stands for meets the triple pattern
+    pair_meets : (pair : ℕ × ℕ) → IsPairOf numbering.triples (length terms.shared) sp qp op pair → Meets pattern (named terms (triple_of sp qp op pair))
+    pair_meets pair own =
+        let u = triple_of sp qp op pair in
+        record {
+          subject = part_meets (all_subjects terms) pattern.subject u.0 (order.uses.subject u own.there) (subject_holds sp qp pair);
+          predicate = part_meets terms.predicates pattern.predicate u.1 (order.uses.predicate u own.there) (predicate_holds qp pair);
+          object = part_meets (all_objects terms) pattern.object u.2 (order.uses.object u own.there) (object_holds sp qp op pair);
+          itself = λ v first second.
+              let one = own.itself v (part_has (all_subjects terms) pattern.subject v first) (part_has (all_objects terms) pattern.object v second) in
+              one_text terms u.0 u.2 one.0 one.1;
+        }
+
+    matches_to : (x : NumberTriple) → Contains (shown value_triple (lists_left p) pattern) x → AreValuesOf terms x t → Contains (all_matches as_terms n graph pattern) t
+    matches_to x at values =
+        let from = from_map (value_triple i) (lists_left p i) x at in
+        let pair = from.0 in
+        let own = (listed pair).0 from.1 in
+        let u = triple_of sp qp op pair in
+        let own_values = subst (λ x. AreValuesOf terms x t) (sym from.2 ∙ value_is pair) values in
+        let name = named_once terms (valued p u) (named terms u) t (values_named numbering order p (made_laws.counts s tree p accepted made) u own.there) own_values in
+        let meets = subst (Meets pattern) name (pair_meets pair own) in
+        filter-Contains (λ triple. is_some (match_of as_terms n pattern triple)) graph t ((in_graph graph numbering t is).1 (u, own.there, name)) (meets_match n pattern t low_vars no_cross meets)
+
+    -- a triple that meets it has a pair
+    triple_pair : (u : Numbered) → Contains numbering.triples u → named terms u ≡ t → Meets pattern t → triple_of sp qp op (pair_of_triple sp qp op u) ≡ u
+    triple_pair u at name meets =
+        let numbers = numbered_again terms numbering.triples order.ordered order.uses u at in
+        let again : numbers_in terms t ≡ u = ap (numbers_in terms) (sym name) ∙ numbers in
+        triple_again sp qp op u (has_number terms pattern (accepted.no_three_places k pattern stands))
+        (holds_part (all_subjects terms) pattern.subject u.0 t.subject (ap (λ (u : Numbered). u.0) again) meets.subject)
+        (holds_part terms.predicates pattern.predicate u.1 t.predicate (ap (λ (u : Numbered). u.1) again) meets.predicate)
+        (holds_part (all_objects terms) pattern.object u.2 t.object (ap (λ (u : Numbered). u.2) again) meets.object)
+
+    has_pair : (u : Numbered) → Contains numbering.triples u → named terms u ≡ t → Meets pattern t → IsPairOf numbering.triples (length terms.shared) sp qp op (pair_of_triple sp qp op u)
+    has_pair u at name meets =
+        let again = triple_pair u at name meets in
+        record {
+          there = subst (Contains numbering.triples) (sym again) at;
+          again = ap (pair_of_triple sp qp op) again;
+          itself = subst (MeetsItself (length terms.shared) sp op) (sym again) (λ v first second.
+              let subject = slice_get-get_or (all_subjects terms) u.0 [] (order.uses.subject u at) ∙ ap Some (ap (λ (t : Triple). t.subject) name) in
+              let same = meets.itself v (has_part (all_subjects terms) pattern.subject v first) (has_part (all_objects terms) pattern.object v second) in
+              let object = slice_get-get_or (all_objects terms) u.2 [] (order.uses.object u at) ∙ ap Some (ap (λ (t : Triple). t.object) name ∙ sym same) in
+              one_number terms u.0 u.2 t.subject order.ordered subject object);
+        }
+
+    matches_from : Contains (all_matches as_terms n graph pattern) t → (x : NumberTriple) × Contains (shown value_triple (lists_left p) pattern) x × AreValuesOf terms x t
+    matches_from at =
+        let found = Contains-filter (λ triple. is_some (match_of as_terms n pattern triple)) graph t at in
+        let meets = match_meets n pattern t low_vars found.1 in
+        let (u, there, name) = (in_graph graph numbering t is).0 found.0 in
+        let pair = pair_of_triple sp qp op u in
+        let value : value_triple i pair ≡ valued p u = value_is pair ∙ ap (valued p) (triple_pair u there name meets) in
+        let values = subst (AreValuesOf terms (valued p u)) name (values_named numbering order p (made_laws.counts s tree p accepted made) u there) in
+        (value_triple i pair, Contains-map (value_triple i) (lists_left p i) pair ((listed pair).1 (has_pair u there name meets)), subst (λ x. AreValuesOf terms x t) (sym value) values)
+
+  pub has_matches : HasMatches numbering tree p
+  has_matches = record {
+    triple = value_triple;
+    reading = reading;
+    apart = apart;
+    matches = λ graph n k pattern t is stands below. (
+      λ (x, at, values). matches_to graph n k pattern t is stands below x at values,
+      matches_from graph n k pattern t is stands below,
+    );
+  }
