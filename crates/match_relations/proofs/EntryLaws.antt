@@ -1,5 +1,5 @@
 -- The relation of a triple pattern fits what is prepared with it.
-use Rattle.std.proofs.Common.{◌≡◌, ◌↔◌, ◌⊎◌, ℕ, ◌+◌, ◌-◌, ◌^◌, ◌<◌, ◌≤◌, inl, inr, List, [], ◌∷◌, length, map, Contains, Option, Some, None, refl, sym, ap, ◌∙◌, subst, arith, length-append}
+use Rattle.std.proofs.Common.{◌≡◌, ◌⊎◌, ℕ, ◌+◌, ◌-◌, ◌^◌, ◌<◌, ◌≤◌, inl, inr, List, [], ◌∷◌, length, map, Contains, Option, Some, None, refl, sym, ap, ◌∙◌, subst, arith, length-append}
 use Rattle.std.proofs.lemmas.List.{length-map}
 use Rattle.std.proofs.lemmas.Cmp.{tied_itself}
 use Rattle.std.specs.Cmp.{nat_cmp_total}
@@ -11,7 +11,7 @@ use Rattle.bm_term.specs.SetOf.{set_of}
 use Rattle.cube_slices.specs.Lines.{Line, LinesAscend, pairs_of}
 use Rattle.cube_slices.specs.Pairs.{ComesBefore, PairsAscend}
 use Rattle.index_file.specs.Families.{pair_cmp}
-use Rattle.index_file.proofs.FamilyLaws.{nat_less, pair_cmp-total, pair_cmp-exact, nothing_ascends}
+use Rattle.index_file.proofs.FamilyLaws.{nat_less, pair_cmp-total, pair_cmp-exact}
 use Rattle.pattern_rel.specs.declared.side.Side.TheVariants.{First, Second}
 use Rattle.pattern_rel.proofs.LeftLaws.{behind_first}
 use Rattle.pattern_rel.proofs.PairLaws.{PairsAscend-lines}
@@ -25,7 +25,7 @@ use Rattle.tree_relations.specs.declared.prepared.PlaceKind.TheVariants.{Subject
 use Rattle.tree_relations.specs.declared.prepared.Prepared.{Prepared}
 use Rattle.tree_relations.specs.declared.prepared.SidePlace.{SidePlace}
 use Rattle.tree_relations.specs.Prepared as prepared
-use Rattle.match_relations.specs.steps.Parts.{Lists, IsPairOf, HasVar, HasNumber, first_side, second_side, number_at, number_or_zero, triple_of, pair_of_triple}
+use Rattle.match_relations.specs.steps.Parts.{Lists, HasVar, HasNumber, first_side, second_side, number_at, number_or_zero, triple_of, pair_of_triple}
 use Rattle.match_relations.specs.declared.part.Part.{Part}
 use Rattle.match_relations.specs.declared.part.Part.TheVariants.{Variable, Number}
 use Rattle.match_relations.proofs.PartLaws.{IsInOrder}
@@ -50,8 +50,8 @@ few_pairs ts shared s p o ls ascend lists =
     let sorted = sorted_pairs (2 ^ 32 - 1) (2 ^ 32 - 1) (pairs_of ls) (PairsAscend-lines 0 (2 ^ 32 - 1) (2 ^ 32 - 1) ls ascend) in
     let set = set_of-is pair_cmp pair_cmp-total pair_cmp-exact whole in
     let part = part_of_ascending pair_cmp pair_cmp-total (pairs_of ls) (set_of pair_cmp whole) sorted set.ascends (λ pair at.
-        let is = (lists.pairs pair).0 at in
-        (set.same pair).1 (subst (Contains whole) is.again (Contains-map {Y = ℕ × ℕ} pair_at ts (triple_of s p o pair) is.there))) in
+    let is = (lists.pairs pair).0 at in
+    (set.same pair).1 (subst (Contains whole) is.again (Contains-map {Y = ℕ × ℕ} pair_at ts (triple_of s p o pair) is.there))) in
     omega (arith, part.short, length-set_of pair_cmp whole, length-map {B = ℕ × ℕ} ts pair_at)
 
 -- ---- the numbers of a side
@@ -103,8 +103,8 @@ meets_itself n p (Variable s) (Variable q) (Variable o) e counts lists apart som
 meets_itself n p (Variable s) (Variable q) (Number o) e counts lists apart some = λ same a c at. absurd (apart q.0 refl (inl (ap (λ (v : Var). v.0) (sym same))))
 meets_itself n p (Variable s) (Number q) (Variable o) e counts lists apart some =
     λ same a c at.
-        let one = ((lists.pairs (a, c)).0 at).itself s.0 refl (ap (λ (v : Var). v.0) (sym same)) in
-        (one.0, subst (λ m. a < m) (sym counts.shared) one.1)
+    let one = ((lists.pairs (a, c)).0 at).itself s.0 refl (ap (λ (v : Var). v.0) (sym same)) in
+    (one.0, subst (λ m. a < m) (sym counts.shared) one.1)
 meets_itself n p (Variable s) (Number q) (Number o) e counts lists apart some = tt
 meets_itself n p (Number s) (Variable q) (Variable o) e counts lists apart some = λ same a c at. absurd (apart q.0 refl (inr (ap (λ (v : Var). v.0) (sym same))))
 meets_itself n p (Number s) (Variable q) (Number o) e counts lists apart some = tt

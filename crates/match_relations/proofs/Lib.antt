@@ -1,3 +1,4 @@
+pub mod AcceptedLaws
 pub mod EntryLaws
 pub mod LimitLaws
 pub mod MadeLaws

@@ -1,11 +1,11 @@
 -- The limits of an index and of a tree.
-use Rattle.std.proofs.Common.{◌≡◌, ◌≢◌, ◌⊎◌, ℕ, zero, suc, ◌+◌, ◌<◌, ◌≤◌, ◌^◌, ◌==◌, ◌++◌, inl, inr, Bool, true, false, not, cond, max, List, [], ◌∷◌, length, map, filter, fold, All, Contains, Some, None, refl, sym, ap, ◌∙◌, subst, arith, eq-eqb, length-append}
+use Rattle.std.proofs.Common.{◌≡◌, ◌≢◌, ℕ, zero, suc, ◌<◌, ◌≤◌, ◌^◌, ◌==◌, inl, inr, Bool, true, false, not, cond, List, [], ◌∷◌, length, map, filter, fold, Contains, refl, ap, subst, arith, eq-eqb, length-append}
 use mathlib.Core.Sum.{⊎_set}
 use mathlib.Core.List.{is_set as List-set}
 use Rattle.std.proofs.Math.Bridge.{le_prop}
 use Rattle.std.proofs.Math.Nat.{ℕ_set}
 use Rattle.std.proofs.Math.Logic.{∥∥₁_elim}
-use Rattle.std.proofs.lemmas.Bool.{ne_eqb, eqb-true}
+use Rattle.std.proofs.lemmas.Bool.{ne_eqb}
 use Rattle.std.proofs.lemmas.List.{length-map}
 use Rattle.std.proofs.lemmas.List.Elements.{All-contains, Contains-append_cases}
 use Rattle.bm_term.proofs.Elements.{Contains-head, Contains-tail, Contains-nil, Contains-cons_cases}
@@ -24,7 +24,7 @@ use Rattle.pattern_tree.specs.Tree.{TreeNode}
 use Rattle.pattern_tree.proofs.Numbered.{number_between, numbered_patterns, numbered_tree}
 use Rattle.pattern_tree.proofs.Standing.{stands-listed}
 use Rattle.term_numbers.specs.Order.{Numbered, number_cmp}
-use Rattle.term_numbers.specs.Numbering.{Numbering, all_subjects, all_objects, numbering_of, numbers_in, terms_of}
+use Rattle.term_numbers.specs.Numbering.{Numbering, all_subjects, all_objects, numbers_in, terms_of}
 use Rattle.term_numbers.proofs.Ascending.{length-set_of}
 use Rattle.term_numbers.proofs.EntryLaws.{filter-Contains}
 use Rattle.term_numbers.proofs.NumberingLaws.{Contains-map}

@@ -1,18 +1,17 @@
 -- What is made for a tree fits the tree.
-use Rattle.std.proofs.Common.{◌≡◌, ◌↔◌, ◌⊎◌, ℕ, zero, suc, ◌+◌, ◌-◌, ◌^◌, ◌<◌, ◌≤◌, ◌++◌, max, min, inl, inr, List, [], ◌∷◌, length, map, All, Contains, Option, Some, None, slice_get, refl, sym, ap, ◌∙◌, subst, arith}
+use Rattle.std.proofs.Common.{◌≡◌, ◌⊎◌, ℕ, zero, suc, ◌+◌, ◌-◌, ◌^◌, ◌<◌, ◌≤◌, inl, inr, List, [], ◌∷◌, length, Contains, Option, Some, None, slice_get, refl, sym, ap, ◌∙◌, subst, arith}
 use Rattle.std.specs.Option.{option_map}
 use Rattle.std.proofs.lemmas.List.{length-map}
-use Rattle.std.proofs.lemmas.List.Elements.{All-contains, Contains-get_or}
-use Rattle.std.proofs.lemmas.Option.{slice_get-map, slice_get-get_or, slice_get_within, get_or_from_slice_get}
+use Rattle.std.proofs.lemmas.List.Elements.{All-contains}
+use Rattle.std.proofs.lemmas.Option.{slice_get-map, slice_get-get_or}
 use Rattle.alg_model.specs.declared.pattern.TriplePat.{TriplePat}
 use Rattle.alg_model.specs.Pattern.{IsVar}
 use Rattle.bm_term.proofs.Elements.{Contains-nil}
-use Rattle.cube_slices.specs.Lines.{Line, LinesAscend, pairs_of}
+use Rattle.cube_slices.specs.Lines.{LinesAscend, pairs_of}
 use Rattle.index_file.specs.Stored.{Stored, counts_of}
 use Rattle.index_file.proofs.StoredLaws.{All-members}
 use Rattle.pattern_rel.specs.Shapes.{lines_of_shape}
 use Rattle.well_designed.specs.Refusals.{HasThreeVariables}
-use Rattle.pattern_rel.specs.declared.side.Side.TheVariants.{First, Second}
 use Rattle.pattern_tree.specs.Standing.{StandsAt}
 use Rattle.pattern_tree.specs.Tree.{TreeNode}
 use Rattle.pruning_laws.specs.Shown.{entry_of}
@@ -21,20 +20,20 @@ use Rattle.tree_relations.specs.declared.prepared.PlaceKind.{PlaceKind}
 use Rattle.tree_relations.specs.declared.prepared.PlaceKind.TheVariants.{Subject, Object, Predicate}
 use Rattle.tree_relations.specs.declared.prepared.Prepared.{Prepared}
 use Rattle.tree_relations.specs.declared.prepared.SidePlace.{SidePlace}
-use Rattle.tree_relations.specs.Fits.{IsSide, place_at, IsEntryOf, IsEntryAt, FitsTree}
+use Rattle.tree_relations.specs.Fits.{IsSide, IsEntryOf, FitsTree}
 use Rattle.tree_relations.specs.Prepared as prepared
 use Rattle.match_relations.specs.AcceptedTrees.{IsAcceptedTree}
 use Rattle.match_relations.specs.declared.borrowed.Borrowed.{Borrowed}
 use Rattle.match_relations.specs.steps.Made.{IsMade}
-use Rattle.match_relations.specs.steps.Masks.{AreFew, Bare, bare, bare_of, kind_count, side_bits, widest, masks_in}
-use Rattle.match_relations.specs.steps.Numbers.{patterns_in, with_number, extent_of}
-use Rattle.match_relations.specs.steps.Parts.{Lists, IsBorrowed, IsBorrowedAt, HasVar, HasNumber, first_side, second_side, subject_part, predicate_part, object_part}
+use Rattle.match_relations.specs.steps.Masks.{Bare, bare, bare_of, kind_count, side_bits, widest}
+use Rattle.match_relations.specs.steps.Numbers.{patterns_in, with_number}
+use Rattle.match_relations.specs.steps.Parts.{Lists, IsBorrowedAt, HasVar, first_side, second_side, subject_part, predicate_part, object_part}
 use Rattle.match_relations.proofs.EntryLaws.{HasCounts, few_pairs, fits_first, fits_second, meets_itself}
 use Rattle.match_relations.proofs.LimitLaws.{few_triples, var_within, number_within, some_number, one_pattern}
 use Rattle.match_relations.proofs.NumberLaws.{found_number, number_found, is_mapped}
 use Rattle.match_relations.proofs.PartLaws.{in_order}
 use Rattle.match_relations.proofs.SideLaws.{has_number, has_var, is_entry_of}
-use Rattle.match_relations.proofs.TreeLaws.{from_patterns_in, to_patterns_in, found_accepted}
+use Rattle.match_relations.proofs.TreeLaws.{from_patterns_in, to_patterns_in}
 
 module _ (s : Stored) (tree : List TreeNode) (p : Prepared) (accepted : IsAcceptedTree tree) (made : IsMade s tree p) where
   abbrev patterns : List TriplePat
@@ -57,14 +56,17 @@ module _ (s : Stored) (tree : List TreeNode) (p : Prepared) (accepted : IsAccept
   borrowed_at i e at =
       let bares : option_map (bare_of (counts_of s)) (slice_get made.borrowed i) ≡ Some (bare e) =
       sym (slice_get-map (bare_of (counts_of s)) made.borrowed i) ∙ sym (ap (λ l. slice_get l i) made.entries) ∙ slice_get-map bare p.entries i ∙ ap (option_map bare) at in
-      let b = is_mapped (bare_of (counts_of s)) (slice_get made.borrowed i) (bare e) bares in
-      (b.0, b.1, record {
-        lines = ap (λ (x : Bare). x.lines) (sym b.2);
-        first = ap (λ (x : Bare). x.first) (sym b.2);
-        second = ap (λ (x : Bare). x.second) (sym b.2);
-        first_bits = ap (λ (x : Bare). x.first_bits) (sym b.2);
-        second_bits = ap (λ (x : Bare). x.second_bits) (sym b.2);
-      })
+      let b = is_mapped (bare_of (counts_of s)) (slice_get made.borrowed i) (bare e) bares in (
+        b.0,
+        b.1,
+        record {
+          lines = ap (λ (x : Bare). x.lines) (sym b.2);
+          first = ap (λ (x : Bare). x.first) (sym b.2);
+          second = ap (λ (x : Bare). x.second) (sym b.2);
+          first_bits = ap (λ (x : Bare). x.first_bits) (sym b.2);
+          second_bits = ap (λ (x : Bare). x.second_bits) (sym b.2);
+        },
+      )
 
   -- the entry of a triple pattern
   pub record IsEntryFor (pattern : TriplePat) (e : Entry) : Type 0 where
@@ -142,8 +144,8 @@ module _ (s : Stored) (tree : List TreeNode) (p : Prepared) (accepted : IsAccept
       let qp = predicate_part terms pattern in
       let op = object_part terms pattern in
       let apart : (v : ℕ) → HasVar qp v → HasVar sp v ⊎ HasVar op v → ⊥ = λ v predicate node.
-          accepted.no_cross_place stands.0 stands.0 pattern pattern v stands.1 stands.1 ((has_var _ pattern.predicate v).1 predicate)
-          (elim node as (λ _. IsVar pattern.subject v ⊎ IsVar pattern.object v) [ inl x ↦ inl ((has_var _ pattern.subject v).1 x) | inr y ↦ inr ((has_var _ pattern.object v).1 y) ]) in
+      accepted.no_cross_place stands.0 stands.0 pattern pattern v stands.1 stands.1 ((has_var _ pattern.predicate v).1 predicate)
+      (elim node as (λ _. IsVar pattern.subject v ⊎ IsVar pattern.object v) [ inl x ↦ inl ((has_var _ pattern.subject v).1 x) | inr y ↦ inr ((has_var _ pattern.object v).1 y) ]) in
       let itself = meets_itself s.numbering p sp qp op e counts is.lists apart (has_number terms pattern none) in
       record {
         first = fits_first s.numbering order p counts sp qp op e is.lists e.first (sym is.first) (first_var pattern e at entry);

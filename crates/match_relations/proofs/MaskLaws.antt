@@ -1,13 +1,13 @@
 -- Masks that are taken one after another.
-use Rattle.std.proofs.Common.{◌≡◌, ◌↔◌, ℕ, ◌+◌, ◌<◌, ◌≤◌, ◌^◌, map, List, [], ◌∷◌, ◌++◌, length, All, Contains, Some, None, refl, sym, ap, ◌∙◌, subst, arith, append_assoc}
+use Rattle.std.proofs.Common.{◌≡◌, ◌↔◌, ℕ, ◌+◌, ◌<◌, ◌≤◌, ◌^◌, map, List, [], ◌∷◌, ◌++◌, All, Some, None, sym, ap, ◌∙◌, subst, arith, append_assoc}
 use Rattle.std.proofs.lemmas.Grind.{flat_map-append}
 use Rattle.std.proofs.lemmas.List.{map-append}
 use Rattle.std.proofs.lemmas.List.Elements.{All-contains, All-append, All-nil, All-cons, All-tail}
 use Rattle.alg_model.proofs.Lists.{AllPairs-append, AllPairs-option}
 use Rattle.bm_term.proofs.Elements.{Contains-single}
 use Rattle.index_file.proofs.StoredLaws.{All-members}
-use Rattle.mask_pool.specs.Mask.{Stretch, words_for, DoNotOverlap}
-use Rattle.mask_pool.specs.Region.{Region, IsLive, IsIn, Stays, words_of}
+use Rattle.mask_pool.specs.Mask.{Stretch, DoNotOverlap}
+use Rattle.mask_pool.specs.Region.{Region, IsLive, IsIn, Stays}
 use Rattle.pattern_rel.specs.Folds.{IsUsable}
 use Rattle.pattern_rel.specs.Shapes.{KnowsColumns}
 use Rattle.row_lanes.specs.Words.{Has}

@@ -1,5 +1,5 @@
 -- The pairs of what is made for a tree stand for just the matches of its triple patterns.
-use Rattle.std.proofs.Common.{◌≡◌, ◌↔◌, ◌⊎◌, ℕ, ◌+◌, ◌-◌, ◌<◌, ◌≤◌, ◌++◌, inl, inr, Bool, true, false, List, [], ◌∷◌, length, get_or, map, filter, All, Contains, Option, Some, None, is_some, slice_get, nat_lt, if◌then◌else◌, refl, sym, ap, ◌∙◌, subst, arith, length-append}
+use Rattle.std.proofs.Common.{◌≡◌, ◌↔◌, ◌⊎◌, ℕ, ◌+◌, ◌<◌, ◌++◌, Bool, true, false, List, [], ◌∷◌, length, get_or, Contains, Option, Some, None, is_some, slice_get, nat_lt, if◌then◌else◌, refl, sym, ap, ◌∙◌, subst, arith, length-append}
 use Rattle.std.proofs.lemmas.Bool.{ltb-true, ltb-false, and_from}
 use Rattle.std.proofs.lemmas.List.Elements.{All-contains, Contains-get_or, Contains-append_left, Contains-append_right}
 use Rattle.std.proofs.lemmas.List.{get_or_append_left}
@@ -43,8 +43,7 @@ use Rattle.match_relations.specs.declared.part.Part.{Part}
 use Rattle.match_relations.specs.declared.part.Part.TheVariants.{Variable, Number}
 use Rattle.match_relations.specs.steps.Made.{IsMade}
 use Rattle.match_relations.specs.steps.Numbers.{patterns_in, with_number}
-use Rattle.match_relations.specs.steps.Parts.{part_of, HasVar, HasNumber, subject_at, predicate_at, object_at, IsPairOf, MeetsItself, first_side, second_side, number_at, number_or_zero, triple_of, pair_of_triple, subject_part, predicate_part, object_part}
-use Rattle.match_relations.proofs.EntryLaws.{at_side}
+use Rattle.match_relations.specs.steps.Parts.{part_of, HasVar, HasNumber, subject_at, predicate_at, object_at, IsPairOf, MeetsItself, number_at, number_or_zero, triple_of, pair_of_triple, subject_part, predicate_part, object_part}
 use Rattle.match_relations.proofs.MadeLaws as made_laws
 use Rattle.match_relations.proofs.MeetsLaws.{MeetsPlace, Meets, match_meets, meets_match}
 use Rattle.match_relations.proofs.NameLaws.{valued, values_named, named_once, in_graph, one_number}
@@ -190,9 +189,10 @@ module _ (s : Stored) (tree : List TreeNode) (p : Prepared) (accepted : IsAccept
       let one = (is.lists.pairs pair).0 at in
       let u = by_pattern (Some pattern) pair in
       let first = low_side _ u pair.0 one.there (ap (λ (x : ℕ × ℕ). x.0) one.again) in
-      let second = low_side _ u pair.1 one.there (ap (λ (x : ℕ × ℕ). x.1) one.again) in
-      (subst (λ k. pair.0 < k) (sym (own.first_bits ∙ ap (side_bits (counts_of s)) (sym own.first ∙ is.first))) first,
-       subst (λ k. pair.1 < k) (sym (own.second_bits ∙ ap (side_bits (counts_of s)) (sym own.second ∙ is.second))) second)
+      let second = low_side _ u pair.1 one.there (ap (λ (x : ℕ × ℕ). x.1) one.again) in (
+        subst (λ k. pair.0 < k) (sym (own.first_bits ∙ ap (side_bits (counts_of s)) (sym own.first ∙ is.first))) first,
+        subst (λ k. pair.1 < k) (sym (own.second_bits ∙ ap (side_bits (counts_of s)) (sym own.second ∙ is.second))) second,
+      )
 
   all_left : (i : ℕ) (e : Entry) (pair : ℕ × ℕ) → slice_get p.entries i ≡ Some e → Contains (lists_left p i) pair ↔ Contains (pairs_of e.rel.lines) pair
   all_left i e pair stands =
@@ -202,14 +202,15 @@ module _ (s : Stored) (tree : List TreeNode) (p : Prepared) (accepted : IsAccept
       let there : Contains p.entries e = subst (Contains p.entries) (get_or_from_slice_get p.entries i e e stands) (Contains-get_or p.entries i e (slice_get_within p.entries i e stands)) in
       let own : List Stretch = e.rel.first ∷ e.rel.second ∷ [] in
       let mask = λ (m : Stretch) (at : Contains own m).
-          All-contains (IsFull p.pool) (p.work ++ masks_in p.entries) m made.masks.full (Contains-append_right p.work (masks_in p.entries) m (Contains-flat_map (λ (e : Entry). e.rel.first ∷ e.rel.second ∷ []) p.entries e m there at)) in
-      (λ at. (Contains-filter (is_left firsts seconds) (pairs_of e.rel.lines) pair (subst (λ l. Contains l pair) is at)).0,
-       λ at.
-           let b = made_laws.borrowed_at s tree p accepted made i e stands in
-           let low = low_pair (with_number (i + 1) (patterns_in tree)) b.0 e pair b.2 (made_laws.entry_at s tree p accepted made i e stands) at in
-           let first = (is_in-has firsts pair.0).1 (mask e.rel.first (Contains-head e.rel.first (e.rel.second ∷ [])) pair.0 low.0) in
-           let second = (is_in-has seconds pair.1).1 (mask e.rel.second (Contains-tail e.rel.first (e.rel.second ∷ []) e.rel.second (Contains-head e.rel.second [])) pair.1 low.1) in
-           subst (λ l. Contains l pair) (sym is) (filter-Contains (is_left firsts seconds) (pairs_of e.rel.lines) pair at (and_from (is_in firsts pair.0) (is_in seconds pair.1) first second)))
+      All-contains (IsFull p.pool) (p.work ++ masks_in p.entries) m made.masks.full (Contains-append_right p.work (masks_in p.entries) m (Contains-flat_map (λ (e : Entry). e.rel.first ∷ e.rel.second ∷ []) p.entries e m there at)) in (
+        λ at. (Contains-filter (is_left firsts seconds) (pairs_of e.rel.lines) pair (subst (λ l. Contains l pair) is at)).0,
+        λ at.
+            let b = made_laws.borrowed_at s tree p accepted made i e stands in
+            let low = low_pair (with_number (i + 1) (patterns_in tree)) b.0 e pair b.2 (made_laws.entry_at s tree p accepted made i e stands) at in
+            let first = (is_in-has firsts pair.0).1 (mask e.rel.first (Contains-head e.rel.first (e.rel.second ∷ [])) pair.0 low.0) in
+            let second = (is_in-has seconds pair.1).1 (mask e.rel.second (Contains-tail e.rel.first (e.rel.second ∷ []) e.rel.second (Contains-head e.rel.second [])) pair.1 low.1) in
+            subst (λ l. Contains l pair) (sym is) (filter-Contains (is_left firsts seconds) (pairs_of e.rel.lines) pair at (and_from (is_in firsts pair.0) (is_in seconds pair.1) first second)),
+      )
 
   -- ---- no two pairs of a relation stand for one triple
 

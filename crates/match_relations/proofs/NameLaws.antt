@@ -1,10 +1,10 @@
 -- The values of a numbered triple name its terms.
-use Rattle.std.proofs.Common.{◌≡◌, ◌↔◌, ◌⊎◌, ℕ, ◌+◌, ◌<◌, inl, inr, Bool, true, false, List, [], ◌++◌, length, get_or, map, Contains, Some, slice_get, nat_lt, if◌then◌else◌, refl, sym, ap, ◌∙◌, subst, arith, append_assoc, lt-ltb}
+use Rattle.std.proofs.Common.{◌≡◌, ◌↔◌, ℕ, ◌+◌, ◌<◌, inl, inr, false, List, [], ◌++◌, length, map, Contains, Some, slice_get, nat_lt, sym, ap, ◌∙◌, subst, arith, append_assoc, lt-ltb}
 use Rattle.std.proofs.lemmas.Option.{slice_get-get_or, slice_get_within, get_or_from_slice_get}
 use Rattle.std.proofs.lemmas.Bool.{le-ltb}
 use Rattle.std.proofs.lemmas.List.Elements.{Contains-get_or, Contains-append_left, Contains-append_right}
 use Rattle.bm_term.specs.declared.triple.Triple.{Triple}
-use Rattle.term_numbers.specs.Numbering.{Terms, Numbering, all_subjects, all_objects, term_table, place_of, numbers_in, named}
+use Rattle.term_numbers.specs.Numbering.{Terms, Numbering, all_subjects, all_objects, term_table, named}
 use Rattle.term_numbers.specs.Order.{Numbered}
 use Rattle.term_numbers.proofs.NumberingLaws.{from_map, Contains-map}
 use Rattle.index_file.specs.Conditions.{AreOrdered}

@@ -1,5 +1,5 @@
 -- The triple patterns of a tree by number, and how far the numbers go.
-use Rattle.std.proofs.Common.{◌≡◌, ◌≢◌, ◌⊎◌, ℕ, ◌+◌, ◌-◌, ◌<◌, ◌≤◌, ◌==◌, inl, inr, Bool, true, false, max, List, [], ◌∷◌, ◌++◌, length, drop, fold, find, get_or, Contains, Option, Some, None, slice_get, if◌then◌else◌, refl, sym, ap, ◌∙◌, subst, arith, eq-eqb}
+use Rattle.std.proofs.Common.{◌≡◌, ◌≢◌, ℕ, ◌+◌, ◌==◌, inl, inr, Bool, true, false, List, [], ◌∷◌, ◌++◌, drop, fold, Contains, Option, Some, None, slice_get, if◌then◌else◌, refl, sym, ap, ◌∙◌, subst, eq-eqb}
 use Rattle.std.specs.Option.{option_map, option_or}
 use Rattle.std.proofs.lemmas.Bool.{ne_eqb, eqb-true}
 use Rattle.std.proofs.lemmas.List.{drop_more}
@@ -10,7 +10,7 @@ use Rattle.bm_term.proofs.Elements.{Contains-head, Contains-tail, Contains-nil, 
 use Rattle.alg_model.specs.declared.pattern.TriplePat.{TriplePat}
 use Rattle.pattern_tree.specs.Tree.{TreeNode}
 use Rattle.match_relations.specs.declared.numbered.Extent.{Extent}
-use Rattle.match_relations.specs.steps.Numbers.{patterns_in, with_number, widened, extent_of}
+use Rattle.match_relations.specs.steps.Numbers.{patterns_in, with_number, widened}
 
 open_at : {X : Type 0} (xs : List X) (i : ℕ) (x : X) → slice_get xs i ≡ Some x → drop i xs ≡ x ∷ drop (i + 1) xs
 open_at xs i x at = drop_more xs i x (slice_get_within xs i x at) ∙ ap (λ y. y ∷ drop (i + 1) xs) (get_or_from_slice_get xs i x x at)

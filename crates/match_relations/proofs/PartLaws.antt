@@ -1,14 +1,13 @@
 -- A term has one number, and the numbers of triples are those of terms.
-use Rattle.std.proofs.Common.{◌≡◌, ◌↔◌, ℕ, suc, ◌+◌, ◌<◌, ◌≤◌, List, [], ◌∷◌, length, get_or, Bool, true, false, cond, not, bytes_eq, Contains, Some, slice_get, refl, sym, ap, ◌∙◌, subst, arith}
+use Rattle.std.proofs.Common.{◌≡◌, ℕ, suc, ◌+◌, ◌<◌, ◌≤◌, List, [], ◌∷◌, length, get_or, Bool, true, false, cond, not, bytes_eq, Contains, Some, slice_get, refl, sym, ap, ◌∙◌, subst, arith}
 use Rattle.std.specs.Cmp.Lexicographic.{same_text}
 use Rattle.alg_model.specs.declared.pattern.Place.{Place}
 use Rattle.alg_model.specs.declared.pattern.Place.TheVariants as places
 use Rattle.bm_term.proofs.Elements.{Contains-head, Contains-tail, Contains-nil}
 use Rattle.match_relations.specs.steps.Parts.{part_of, IsMissing, Lists}
 use Rattle.match_relations.specs.declared.part.Part.{Part}
-use Rattle.match_relations.specs.declared.part.Part.TheVariants.{Variable, Number}
 use Rattle.std.proofs.lemmas.Option.{slice_get_within, get_or_from_slice_get}
-use Rattle.term_numbers.specs.Numbering.{Terms, Numbering, all_subjects, all_objects, place_of, numbering_of}
+use Rattle.term_numbers.specs.Numbering.{Numbering, all_subjects, all_objects, place_of}
 use Rattle.index_file.specs.Conditions.{AreOrdered}
 use Rattle.index_file.specs.Version.{NumbersSomeGraph}
 use Rattle.index_file.proofs.NamingLaws.{UseAll, Differ, Differ-ascending, subjects_differ, objects_differ, place_of_differ}

@@ -15,9 +15,9 @@ use Rattle.index_file.specs.declared.family.Family.{Family}
 use Rattle.index_file.specs.declared.family.Family.TheVariants.{So, Os, Ps, Po}
 use Rattle.index_file.proofs.FamilyLaws.{in_slice}
 use Rattle.pattern_rel.specs.Shapes.{lists, lines_that, row_lines, column_lines, diagonal_lines, row_of, AreTransposed}
-use Rattle.pattern_rel.proofs.PairLaws.{iff_then, Contains-line, Contains-pairs_of}
+use Rattle.pattern_rel.proofs.PairLaws.{Contains-line, Contains-pairs_of}
 use Rattle.term_numbers.specs.Order.{Numbered}
-use Rattle.match_relations.specs.steps.Parts.{Lists, IsPairOf, triple_of}
+use Rattle.match_relations.specs.steps.Parts.{Lists}
 use Rattle.match_relations.specs.declared.part.Part.TheVariants.{Variable, Number}
 
 -- the pairs of a slice are those of the triples whose slice it is
@@ -221,4 +221,3 @@ module _ (ts : List Numbered) (shared : ℕ) where
           λ at. let never = is.1 (there.1 at.there) in cc,
         );
       }
-

@@ -1,5 +1,5 @@
 -- The sides of a relation are the variable places of its triple pattern.
-use Rattle.std.proofs.Common.{◌≡◌, ◌↔◌, ◌⊎◌, ℕ, inl, inr, List, Option, Some, None, refl}
+use Rattle.std.proofs.Common.{◌≡◌, ◌↔◌, ◌⊎◌, ℕ, inl, inr, List, refl}
 use Rattle.alg_model.specs.declared.pattern.Place.{Place}
 use Rattle.alg_model.specs.declared.pattern.Place.TheVariants as places
 use Rattle.alg_model.specs.declared.pattern.TriplePat.{TriplePat}
@@ -8,7 +8,6 @@ use Rattle.term_numbers.specs.Numbering.{Terms}
 use Rattle.tree_relations.specs.declared.prepared.Entry.{Entry}
 use Rattle.tree_relations.specs.declared.prepared.PlaceKind.{PlaceKind}
 use Rattle.tree_relations.specs.declared.prepared.PlaceKind.TheVariants.{Subject, Object, Predicate}
-use Rattle.tree_relations.specs.declared.prepared.SidePlace.{SidePlace}
 use Rattle.tree_relations.specs.Fits.{IsSide, place_at, IsEntryOf}
 use Rattle.well_designed.specs.Refusals.{HasThreeVariables}
 use Rattle.match_relations.specs.steps.Parts.{part_of, HasVar, HasNumber, first_side, second_side, subject_part, predicate_part, object_part}

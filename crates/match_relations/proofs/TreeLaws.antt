@@ -1,9 +1,7 @@
 -- The triple patterns of a tree, and what is borrowed for them.
-use Rattle.std.proofs.Common.{◌≡◌, ◌⊎◌, ℕ, zero, suc, ◌+◌, ◌<◌, ◌≤◌, ◌++◌, inl, inr, List, [], ◌∷◌, length, All, Contains, Option, Some, None, slice_get, refl, sym, ap, ◌∙◌, subst, arith}
-use Rattle.std.specs.Option.{option_map}
+use Rattle.std.proofs.Common.{◌≡◌, ℕ, zero, suc, ◌+◌, ◌++◌, inl, inr, List, [], ◌∷◌, length, All, Contains, Option, Some, None, slice_get, refl, sym, ap, ◌∙◌, subst, arith}
 use Rattle.std.proofs.lemmas.List.Elements.{Contains-get_or}
 use Rattle.std.proofs.lemmas.Option.{slice_get-get_or, slice_get_within, get_or_from_slice_get}
-use Rattle.bm_term.proofs.Elements.{Contains-head}
 use Rattle.alg_model.specs.declared.pattern.TriplePat.{TriplePat}
 use Rattle.alg_model.proofs.Lists.{Contains-flat_map, source-flat_map}
 use Rattle.pattern_tree.specs.Standing.{StandsAt}
@@ -17,7 +15,7 @@ use Rattle.match_relations.specs.AcceptedTrees.{IsAcceptedTree}
 use Rattle.match_relations.specs.declared.borrowed.Borrowed.{Borrowed}
 use Rattle.match_relations.specs.steps.Numbers.{patterns_in, with_number}
 use Rattle.match_relations.specs.steps.Parts.{IsBorrowedAt, AreBorrowed}
-use Rattle.match_relations.proofs.NumberLaws.{found_number, is_mapped}
+use Rattle.match_relations.proofs.NumberLaws.{found_number}
 
 -- the triple patterns of a tree are those that stand in it
 pub from_patterns_in : (tree : List TreeNode) (p : TriplePat) → Contains (patterns_in tree) p → (k : ℕ) × StandsAt tree k p

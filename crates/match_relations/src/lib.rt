@@ -6,10 +6,12 @@
 #![tactic(auto)]
 
 mod borrowed;
+mod laws;
 mod masks;
 mod numbered;
 mod part;
 mod preparing;
 mod shapes;
 
+pub use laws::an_accepted_pattern_has_an_accepted_tree;
 pub use preparing::prepare;

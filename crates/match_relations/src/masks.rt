@@ -42,8 +42,7 @@ pub(crate) fn widest(counts: &IndexCounts) -> u32
     ensures bits { result ≡ widest counts.now }
     ensures low { result ≤ 2 ^ 23 }
 {
-    (counts.shared + counts.subjects)
-        .max((counts.shared + counts.objects).max(counts.predicates))
+    (counts.shared + counts.subjects).max((counts.shared + counts.objects).max(counts.predicates))
 }
 
 /// How many words the masks of a relation take.
@@ -91,11 +90,7 @@ pub(crate) fn take_work(
 }
 
 /// The relation of what is borrowed, with two masks from a pool.
-fn with_masks<'a>(
-    pool: &mut MaskPool,
-    counts: &IndexCounts,
-    borrowed: Borrowed<'a>,
-) -> Entry<'a>
+fn with_masks<'a>(pool: &mut MaskPool, counts: &IndexCounts, borrowed: Borrowed<'a>) -> Entry<'a>
     requires few { AreFew counts.now }
     requires room { entry_words counts.now borrowed ≤ pool.old.spare }
     requires knows { KnowsColumns borrowed.shape }

@@ -16,11 +16,7 @@ use std::alloc::{AllocError, Global};
 use tree_relations::Prepared;
 
 /// The relations, with all masks from one pool that has just room for them.
-fn made<'a>(
-    alloc: Global,
-    tree: &Tree<'_>,
-    index: &Index<'a>,
-) -> Result<Prepared<'a>, AllocError>
+fn made<'a>(alloc: Global, tree: &Tree<'_>, index: &Index<'a>) -> Result<Prepared<'a>, AllocError>
     requires { IsAcceptedTree tree.now }
     ensures made { IfOk result (IsMade index.now tree.now) }
     ensures spare { IfOk result (λ p. p.pool.spare ≡ 0) }

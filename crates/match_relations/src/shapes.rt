@@ -127,11 +127,7 @@ fn ground_if<'a>(there: bool) -> Shape<'a>
     ensures lines { lines_of_shape result ≡ (if there then record { row = 0; columns = 0 ∷ [] } ∷ [] else []) }
     ensures knows { KnowsColumns result }
 {
-    if there {
-        Shape::Ground
-    } else {
-        Shape::Nothing
-    }
+    if there { Shape::Ground } else { Shape::Nothing }
 }
 
 /// The triple of a subject, a predicate and an object, if it is there.

@@ -1,5 +1,5 @@
 -- Carries proofs only: what is made for a tree, as its parts were made one after another.
-use Rattle.std.specs.Prelude.{◌≡◌, ℕ, ◌+◌, List, ◌++◌, length, map, All}
+use Rattle.std.specs.Prelude.{◌≡◌, ◌+◌, List, ◌++◌, length, map, All}
 use Rattle.index_file.specs.Stored.{Stored, counts_of}
 use Rattle.index_file.specs.Version.{NumbersSomeGraph}
 use Rattle.pattern_tree.specs.PatternTree.{IsPatternTree}

@@ -1,5 +1,5 @@
 -- Carries proofs only: the masks of relations.
-use Rattle.std.specs.Prelude.{◌≡◌, ℕ, ◌+◌, ◌<◌, ◌≤◌, ◌^◌, min, max, List, [], ◌∷◌, All, AllPairs, Option, Some, None}
+use Rattle.std.specs.Prelude.{ℕ, ◌+◌, ◌<◌, ◌≤◌, ◌^◌, min, max, List, [], ◌∷◌, All, AllPairs, Option, Some, None}
 use Rattle.std.specs.List.{flat_map}
 use Rattle.cube_slices.specs.Lines.{Line}
 use Rattle.index_file.specs.declared.counts.IndexCounts.{IndexCounts}

@@ -1,7 +1,6 @@
-use Rattle.std.proofs.Common.{List, length, ap, ◌++◌, arith}
-use Rattle.mask_pool.specs.Mask.{Stretch}
+use Rattle.std.proofs.Common.{length, ap, ◌++◌, arith}
 use Rattle.match_relations.specs.declared.borrowed.Borrowed.{Borrowed}
-use Rattle.match_relations.specs.steps.Masks.{AreMasks, masks_in}
+use Rattle.match_relations.specs.steps.Masks.{masks_in}
 use Rattle.match_relations.proofs.MaskLaws.{entry_pushed, masks_pushed, words_left, knows_left}
 use Rattle.match_relations.proofs.masks.all_with_masks.Goals as goal
 

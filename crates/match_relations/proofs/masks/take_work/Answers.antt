@@ -1,6 +1,6 @@
 use Rattle.std.proofs.Common.{arith, ◌+◌, ◌≤◌, [], ◌∷◌, length-append}
 use Rattle.std.proofs.Math.Nat.{mul-le-mul_left}
-use Rattle.mask_pool.specs.Mask.{Stretch, words_for}
+use Rattle.mask_pool.specs.Mask.{words_for}
 use Rattle.match_relations.proofs.MaskLaws.{take_one, one_more_bits}
 use Rattle.match_relations.proofs.masks.take_work.Goals as goal
 

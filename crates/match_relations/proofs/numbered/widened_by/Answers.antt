@@ -1,4 +1,4 @@
-use Rattle.std.proofs.Common.{sym, ◌∙◌}
+use Rattle.std.proofs.Common.{◌∙◌}
 use Rattle.match_relations.proofs.NumberLaws.{widened_next}
 use Rattle.match_relations.proofs.numbered.widened_by.Goals as goal
 

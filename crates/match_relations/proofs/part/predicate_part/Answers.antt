@@ -1,4 +1,4 @@
-use Rattle.std.proofs.Common.{ap, ◌∙◌, sym}
+use Rattle.std.proofs.Common.{ap}
 use Rattle.match_relations.specs.declared.part.Part.TheVariants.{Number}
 use Rattle.match_relations.proofs.PartLaws.{found_predicate}
 use Rattle.match_relations.proofs.part.predicate_part.Goals as goal

@@ -1,8 +1,7 @@
-use Rattle.std.proofs.Common.{◌≡◌, ◌+◌, ◌≤◌, ap, ◌∙◌, arith}
+use Rattle.std.proofs.Common.{◌+◌, ◌≤◌, ap, ◌∙◌, arith}
 use Rattle.std.proofs.Math.Nat.{mul-le-mul_left}
 use Rattle.index_file.specs.declared.counts.IndexCounts.{IndexCounts}
 use Rattle.match_relations.specs.declared.numbered.Extent.{Extent}
-use Rattle.match_relations.specs.steps.Masks.{AreFew}
 use Rattle.match_relations.specs.steps.Numbers.{patterns_in}
 use Rattle.match_relations.proofs.LimitLaws.{few_counts, few_patterns, few_vars}
 use Rattle.match_relations.proofs.TreeLaws.{all_known}
