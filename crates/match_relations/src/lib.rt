@@ -15,3 +15,6 @@ mod shapes;
 
 pub use laws::an_accepted_pattern_has_an_accepted_tree;
 pub use preparing::prepare;
+
+#[cfg(test)]
+mod tests;
