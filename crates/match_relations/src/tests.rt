@@ -87,8 +87,9 @@ fn each_kind_of_triple_pattern_has_its_matches(rt: HostRuntime) -> Result<(), Fa
     let index = Index::open(&IMAGE).map_err(|_| "an index")?;
     for (subject, predicate, object, wanted) in COUNTS {
         let pattern = pattern(alloc, subject, predicate, object)?;
-        if refusal_of(&pattern).is_some() {
-            return Err(Fail::from("a refusal"));
+        match refusal_of(&pattern) {
+            Some(_) => return Err(Fail::from("a refusal")),
+            None => {}
         }
         let tree = tree_of(alloc, &pattern)?;
         let prepared = prepare(alloc, &tree, &index)?;
