@@ -1,5 +1,6 @@
 pub mod AcceptedLaws
 pub mod EntryLaws
+pub mod Examples
 pub mod FitsLaws
 pub mod LimitLaws
 pub mod MadeLaws
