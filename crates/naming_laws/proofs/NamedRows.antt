@@ -39,9 +39,8 @@ module _ {W V : Type 0} (value : W → V) where
       (None ∷ rest.0, ap (λ row. None ∷ row) rest.1, holds_of_all P None rest.0 (λ v is. absurd cc) rest.2)
   names_for P (Some x ∷ row) each =
       let first = each 0 x refl in
-      let rest = names_for (λ var. P (suc var)) row (λ var x is. each (suc var) x is) in
-      (
+      let rest = names_for (λ var. P (suc var)) row (λ var x is. each (suc var) x is) in (
         Some first.0 ∷ rest.0,
         ap (λ x. Some x ∷ named_row value rest.0) first.2 ∙ ap (λ row. Some x ∷ row) rest.1,
-        holds_of_all P (Some first.0) rest.0 (λ v is. subst (P 0) cc first.1) rest.2,
+        holds_of_all P (Some first.0) rest.0 (λ v is. (let same : first.0 ≡ v = cc in subst (P 0) same first.1)) rest.2,
       )
