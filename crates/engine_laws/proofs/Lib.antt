@@ -1,3 +1,4 @@
 pub mod Bags
 pub mod Families
+pub mod VariableKinds
 pub mod WholeWay

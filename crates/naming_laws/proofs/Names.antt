@@ -25,16 +25,16 @@ use Rattle.naming_laws.proofs.NamedRows.{binding_named, named_some, named_none, 
 
 module _ {W Y V : Type 0} (names : Interpretation W Y) (value : W → V) (n : ℕ) (tree : List TreeNode) (family : Family Y) where
   -- a triple of the list of a triple pattern of the tree gives the variable the name
-  record IsTaken (var : ℕ) (name : W) : Type 0 where
-    node : ℕ
-    pattern : TriplePat
-    item : Y
-    stands : StandsAt tree node pattern
-    among : Contains (family pattern) item
-    takes : TakesValue names pattern item var name
+  pub record IsTaken (var : ℕ) (name : W) : Type 0 where
+    pub node : ℕ
+    pub pattern : TriplePat
+    pub item : Y
+    pub stands : StandsAt tree node pattern
+    pub among : Contains (family pattern) item
+    pub takes : TakesValue names pattern item var name
 
   -- each that the row of a partial solution binds is so taken
-  bound_taken : (set : ℕ → Bool) (name : Row W) → IsPartialSolution names n tree family set name → (var : ℕ) (v : W) → binding name var ≡ Some v → IsTaken var v
+  pub bound_taken : (set : ℕ → Bool) (name : Row W) → IsPartialSolution names n tree family set name → (var : ℕ) (v : W) → binding name var ≡ Some v → IsTaken var v
   bound_taken set name solution var v bound =
       let among = (solution.solves.binds var).0 (IsSome-from_value (binding name var) v bound) in
       let from = source-flat_map triple_vars (patterns_of tree set) var among in
