@@ -1,4 +1,6 @@
 pub mod Bags
 pub mod Families
+pub mod ShownTerms
+pub mod Tables
 pub mod VariableKinds
 pub mod WholeWay
