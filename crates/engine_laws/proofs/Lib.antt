@@ -1,4 +1,5 @@
 pub mod Bags
+pub mod Engine
 pub mod Families
 pub mod ShownTerms
 pub mod Tables

@@ -1,6 +1,5 @@
 -- The term table of a graph: nodes, no two with one text, and then predicates, no two with one text.
-use Rattle.std.proofs.Common.{◌≡◌, ◌≢◌, ℕ, ◌++◌, inl, inr, List, AllPairs, Contains, refl, sym, ◌∙◌, ap, subst, append_assoc}
-use Rattle.std.proofs.lemmas.List.Elements.{Contains-append_left, Contains-append_right, Contains-append_cases}
+use Rattle.std.proofs.Common.{◌≡◌, ◌≢◌, ℕ, ◌++◌, List, AllPairs, Contains, sym, ◌∙◌, ap, subst, append_assoc}
 use Rattle.bm_term.specs.Graph.{triple_cmp}
 use Rattle.bm_term.specs.declared.triple.Triple.{Triple}
 use Rattle.bm_term.proofs.Sets.{AllPairs-ascending}
@@ -9,7 +8,7 @@ use Rattle.alg_model.proofs.Lists.{AllPairs-append}
 use Rattle.index_file.specs.Conditions.{AreOrdered}
 use Rattle.index_file.specs.Version.{NumbersGraph}
 use Rattle.index_file.proofs.TermGroupLaws.{AreOrdered-terms_of}
-use Rattle.term_numbers.specs.Numbering.{Terms, Numbering, terms_of, term_table}
+use Rattle.term_numbers.specs.Numbering.{Terms, Numbering, term_table}
 use Rattle.term_numbers.specs.Order.{text_cmp}
 use Rattle.term_numbers.proofs.Ascending.{text_cmp-total}
 

@@ -1,9 +1,8 @@
 -- The values that a variable takes are of one kind, nodes or predicates, and within a kind no two have one text.
-use Rattle.std.proofs.Common.{◌≡◌, ◌≢◌, ◌⊎◌, inl, inr, Bool, true, false, ℕ, ◌+◌, ◌-◌, ◌<◌, ◌≤◌, ◌++◌, List, [], length, get_or, map, All, AllPairs, Contains, Option, Some, None, if◌then◌else◌, refl, sym, ◌∙◌, ap, subst, arith}
-use Rattle.std.specs.Prelude.{nat_lt, slice_get}
+use Rattle.std.proofs.Common.{◌≡◌, ◌≢◌, ◌⊎◌, inl, inr, Bool, true, false, ℕ, ◌+◌, ◌-◌, ◌<◌, ◌≤◌, ◌++◌, List, [], length, get_or, AllPairs, Contains, Option, Some, None, if◌then◌else◌, sym, ◌∙◌, ap, subst, arith}
+use Rattle.std.specs.Prelude.{nat_lt}
 use Rattle.std.proofs.lemmas.Bool.{cases_lt}
 use Rattle.std.proofs.lemmas.List.{get_or_append_left, get_or-append_right, length-append}
-use Rattle.std.proofs.lemmas.List.Elements.{All-contains, Contains-get_or}
 use Rattle.std.proofs.lemmas.Option.{slice_get_within, get_or_from_slice_get}
 use Rattle.alg_model.specs.declared.pattern.TriplePat.{TriplePat}
 use Rattle.alg_model.specs.Pattern.{IsVar}
@@ -26,7 +25,7 @@ use Rattle.tree_relations.specs.declared.prepared.SidePlace.{SidePlace}
 use Rattle.tree_relations.specs.declared.prepared.Entry.{Entry}
 use Rattle.tree_relations.specs.declared.prepared.Prepared.{Prepared}
 use Rattle.tree_relations.specs.Prepared.{count_of, FitsPlace, FitsEntry}
-use Rattle.tree_relations.specs.Fits.{place_at, IsSide, IsEntryAt, FitsTree}
+use Rattle.tree_relations.specs.Fits.{place_at, IsSide, FitsTree}
 use Rattle.tree_relations.specs.Readings.{NumberTriple, part_at, value_of, lists_left, left_of, ReadsSide, IsReading}
 use Rattle.engine_laws.specs.Terms.{text_at, values_of, CountsTerms, HasNoCrossPlaces}
 
@@ -125,9 +124,11 @@ module _ (tree : List TreeNode) (p : Prepared) (fits : FitsTree tree p) (triple 
     predicate_text value high = ap (λ texts. get_or texts value []) table ∙ get_or-append_right (terms.shared ++ (terms.subjects ++ terms.objects)) terms.predicates (node_count p) value [] long high
 
     pub apart : TellsApart (values_of terms) (text_at terms) tree (shown triple (lists_left p))
-    apart = record { one = λ k j pattern other y z var v w stands stands' among among' takes takes' same.
-      one pattern other var v w (cross k j pattern other var stands stands') (cross j k other pattern var stands' stands)
-      (taken_kind terms k pattern y var v stands among takes) (taken_kind terms j other z var w stands' among' takes') same } where
+    apart = record {
+      one = λ k j pattern other y z var v w stands stands' among among' takes takes' same.
+          one pattern other var v w (cross k j pattern other var stands stands') (cross j k other pattern var stands' stands)
+          (taken_kind terms k pattern y var v stands among takes) (taken_kind terms j other z var w stands' among' takes') same;
+    } where
       one : (pattern other : TriplePat) (var v w : ℕ) → (IsVar pattern.predicate var → ¬ (IsVar other.subject var ⊎ IsVar other.object var)) → (IsVar other.predicate var → ¬ (IsVar pattern.subject var ⊎ IsVar pattern.object var)) →
           IsNodeOf pattern var v ⊎ IsPredicateOf pattern var v → IsNodeOf other var w ⊎ IsPredicateOf other var w → text_at terms v ≡ text_at terms w → v ≡ w
       one pattern other var v w never never' (inl a) (inl b) same =
@@ -141,5 +142,5 @@ module _ (tree : List TreeNode) (p : Prepared) (fits : FitsTree tree p) (triple 
           let low' = b.1 in
           let count = counts.predicates in
           let is = one_place terms.predicates predicates_differ (v - node_count p) (w - node_count p) (omega (arith, low, high, count)) (omega (arith, low', high', count))
-              (sym (predicate_text v high) ∙ same ∙ predicate_text w high') in
+          (sym (predicate_text v high) ∙ same ∙ predicate_text w high') in
           omega (arith, is, high, high')
