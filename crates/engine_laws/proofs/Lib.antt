@@ -1,5 +1,6 @@
 pub mod Bags
 pub mod Engine
+pub mod Examples
 pub mod Families
 pub mod ShownTerms
 pub mod Tables
