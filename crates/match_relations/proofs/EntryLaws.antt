@@ -25,6 +25,7 @@ use Rattle.tree_relations.specs.declared.prepared.PlaceKind.TheVariants.{Subject
 use Rattle.tree_relations.specs.declared.prepared.Prepared.{Prepared}
 use Rattle.tree_relations.specs.declared.prepared.SidePlace.{SidePlace}
 use Rattle.tree_relations.specs.Prepared as prepared
+use Rattle.match_relations.specs.Matches.{HasCounts}
 use Rattle.match_relations.specs.steps.Parts.{Lists, HasVar, HasNumber, first_side, second_side, number_at, number_or_zero, triple_of, pair_of_triple}
 use Rattle.match_relations.specs.declared.part.Part.{Part}
 use Rattle.match_relations.specs.declared.part.Part.TheVariants.{Variable, Number}
@@ -55,13 +56,6 @@ few_pairs ts shared s p o ls ascend lists =
     omega (arith, part.short, length-set_of pair_cmp whole, length-map {B = ℕ × ℕ} ts pair_at)
 
 -- ---- the numbers of a side
-
--- the counts are those of the numbering
-pub record HasCounts (n : Numbering) (p : Prepared) : Type 0 where
-  pub shared : p.shared ≡ length n.terms.shared
-  pub subjects : p.subjects ≡ length n.terms.subjects
-  pub objects : p.objects ≡ length n.terms.objects
-  pub predicates : p.predicates ≡ length n.terms.predicates
 
 -- the number of a triple at a side with a variable
 pub at_side : (side : Option SidePlace) (place : SidePlace) (t : Numbered) (k : ℕ) → side ≡ Some place → number_or_zero side t ≡ k → number_at place.kind t ≡ k

@@ -28,7 +28,7 @@ use Rattle.match_relations.specs.steps.Made.{IsMade}
 use Rattle.match_relations.specs.steps.Masks.{Bare, bare, bare_of, kind_count, side_bits, widest}
 use Rattle.match_relations.specs.steps.Numbers.{patterns_in, with_number}
 use Rattle.match_relations.specs.steps.Parts.{Lists, IsBorrowedAt, HasVar, first_side, second_side, subject_part, predicate_part, object_part}
-use Rattle.match_relations.proofs.EntryLaws.{HasCounts, few_pairs, fits_first, fits_second, meets_itself}
+use Rattle.match_relations.proofs.EntryLaws.{few_pairs, fits_first, fits_second, meets_itself}
 use Rattle.match_relations.proofs.LimitLaws.{few_triples, var_within, number_within, some_number, one_pattern}
 use Rattle.match_relations.proofs.NumberLaws.{found_number, number_found, is_mapped}
 use Rattle.match_relations.proofs.PartLaws.{in_order}
@@ -38,9 +38,6 @@ use Rattle.match_relations.proofs.TreeLaws.{from_patterns_in, to_patterns_in}
 module _ (s : Stored) (tree : List TreeNode) (p : Prepared) (accepted : IsAcceptedTree tree) (made : IsMade s tree p) where
   abbrev patterns : List TriplePat
   patterns = patterns_in tree
-
-  pub counts : HasCounts s.numbering p
-  counts = record { shared = made.counts.shared; subjects = made.counts.subjects; objects = made.counts.objects; predicates = made.counts.predicates }
 
   -- ---- what each entry is
 
@@ -100,13 +97,13 @@ module _ (s : Stored) (tree : List TreeNode) (p : Prepared) (accepted : IsAccept
   -- ---- it fits
 
   low_bits : (side : Option SidePlace) → side_bits (counts_of s) side ≤ prepared.work_bits p
-  low_bits None = omega (arith, counts.predicates)
+  low_bits None = omega (arith, made.counts.predicates)
   low_bits (Some place) = by place.kind
     where
       by : (kind : PlaceKind) → kind_count (counts_of s) kind ≤ prepared.work_bits p
-      by Subject = omega (arith, counts.shared, counts.subjects)
-      by Object = omega (arith, counts.shared, counts.objects)
-      by Predicate = omega (arith, counts.predicates)
+      by Subject = omega (arith, made.counts.shared, made.counts.subjects)
+      by Object = omega (arith, made.counts.shared, made.counts.objects)
+      by Predicate = omega (arith, made.counts.predicates)
 
   -- the variable at a side has a working mask
   pub is_entry : (pattern : TriplePat) (e : Entry) → ¬ HasThreeVariables pattern → IsEntryFor pattern e → IsEntryOf pattern e
@@ -146,10 +143,10 @@ module _ (s : Stored) (tree : List TreeNode) (p : Prepared) (accepted : IsAccept
       let apart : (v : ℕ) → HasVar qp v → HasVar sp v ⊎ HasVar op v → ⊥ = λ v predicate node.
       accepted.no_cross_place stands.0 stands.0 pattern pattern v stands.1 stands.1 ((has_var _ pattern.predicate v).1 predicate)
       (elim node as (λ _. IsVar pattern.subject v ⊎ IsVar pattern.object v) [ inl x ↦ inl ((has_var _ pattern.subject v).1 x) | inr y ↦ inr ((has_var _ pattern.object v).1 y) ]) in
-      let itself = meets_itself s.numbering p sp qp op e counts is.lists apart (has_number terms pattern none) in
+      let itself = meets_itself s.numbering p sp qp op e made.counts is.lists apart (has_number terms pattern none) in
       record {
-        first = fits_first s.numbering order p counts sp qp op e is.lists e.first (sym is.first) (first_var pattern e at entry);
-        second = fits_second s.numbering order p counts sp qp op e is.lists e.second (sym is.second) (second_var pattern e at entry);
+        first = fits_first s.numbering order p made.counts sp qp op e is.lists e.first (sym is.first) (first_var pattern e at entry);
+        second = fits_second s.numbering order p made.counts sp qp op e is.lists e.second (sym is.second) (second_var pattern e at entry);
         itself = rw (is.first, is.second) itself;
         few = omega (arith, few_pairs s.numbering.triples (length terms.shared) sp qp op e.rel.lines is.ascend is.lists, few_triples s.numbering made.some);
         first_room = omega (arith, own.first_bits, low_bits b.first);
@@ -158,10 +155,10 @@ module _ (s : Stored) (tree : List TreeNode) (p : Prepared) (accepted : IsAccept
 
   fits_together : prepared.FitsTogether p
   fits_together = record {
-    counts = omega (arith, counts.shared, counts.subjects, counts.objects, counts.predicates, made.few.subjects, made.few.objects, made.few.predicates);
+    counts = omega (arith, made.counts.shared, made.counts.subjects, made.counts.objects, made.counts.predicates, made.few.subjects, made.few.objects, made.few.predicates);
     work = All-members (λ m. m.bits ≡ prepared.work_bits p) p.work (λ m at.
         let bits = All-contains (λ m. m.bits ≡ widest (counts_of s)) p.work m made.bits at in
-        omega (arith, bits, counts.shared, counts.subjects, counts.objects, counts.predicates));
+        omega (arith, bits, made.counts.shared, made.counts.subjects, made.counts.objects, made.counts.predicates));
     entries = All-members (prepared.FitsEntry p) p.entries (λ e at.
         let stands : slice_get p.entries at.0 ≡ Some e = slice_get-get_or p.entries at.0 e at.1 ∙ ap Some at.2 in
         let b = borrowed_at at.0 e stands in

@@ -232,7 +232,7 @@ module _ (s : Stored) (tree : List TreeNode) (p : Prepared) (accepted : IsAccept
 
   -- ---- the pairs of a triple pattern stand for its matches
 
-  module _ (graph : List Triple) (n k : ℕ) (pattern : TriplePat) (t : Triple) (is : NumbersGraph graph numbering) (stands : StandsAt tree k pattern) (below : HasVarsBelow n (Bgp (pattern ∷ []))) where
+  module _ (k : ℕ) (pattern : TriplePat) (stands : StandsAt tree k pattern) where
     abbrev terms : Terms
     terms = numbering.terms
 
@@ -260,76 +260,87 @@ module _ (s : Stored) (tree : List TreeNode) (p : Prepared) (accepted : IsAccept
         let lists = entry.2.lists.pairs pair in
         (λ at. lists.0 (left.0 at), λ own. left.1 (lists.1 own))
 
-    low_vars : AreBelow n (triple_vars pattern)
-    low_vars v at = All-contains (λ v. v < n) (triple_vars pattern ++ []) v below (Contains-append_left (triple_vars pattern) [] v at)
-
-    no_cross : (v : ℕ) → IsVar pattern.predicate v → IsVar pattern.subject v ⊎ IsVar pattern.object v → ⊥
-    no_cross v predicate node = accepted.no_cross_place k k pattern pattern v stands stands predicate node
-
-    -- the triple that a pair stands for meets the triple pattern
-    pair_meets : (pair : ℕ × ℕ) → IsPairOf numbering.triples (length terms.shared) sp qp op pair → Meets pattern (named terms (triple_of sp qp op pair))
-    pair_meets pair own =
-        let u = triple_of sp qp op pair in
-        record {
-          subject = part_meets (all_subjects terms) pattern.subject u.0 (order.uses.subject u own.there) (subject_holds sp qp pair);
-          predicate = part_meets terms.predicates pattern.predicate u.1 (order.uses.predicate u own.there) (predicate_holds qp pair);
-          object = part_meets (all_objects terms) pattern.object u.2 (order.uses.object u own.there) (object_holds sp qp op pair);
-          itself = λ v first second.
-              let one = own.itself v (part_has (all_subjects terms) pattern.subject v first) (part_has (all_objects terms) pattern.object v second) in
-              one_text terms u.0 u.2 one.0 one.1;
-        }
-
-    matches_to : (x : NumberTriple) → Contains (shown value_triple (lists_left p) pattern) x → AreValuesOf terms x t → Contains (all_matches as_terms n graph pattern) t
-    matches_to x at values =
+    -- what a pair stands for are the values of a triple
+    named_values : (x : NumberTriple) → Contains (shown value_triple (lists_left p) pattern) x → (t : Triple) × AreValuesOf terms x t
+    named_values x at =
         let from = from_map (value_triple i) (lists_left p i) x at in
-        let pair = from.0 in
-        let own = (listed pair).0 from.1 in
-        let u = triple_of sp qp op pair in
-        let own_values = subst (λ x. AreValuesOf terms x t) (sym from.2 ∙ value_is pair) values in
-        let name = named_once terms (valued p u) (named terms u) t (values_named numbering order p (made_laws.counts s tree p accepted made) u own.there) own_values in
-        let meets = subst (Meets pattern) name (pair_meets pair own) in
-        filter-Contains (λ triple. is_some (match_of as_terms n pattern triple)) graph t ((in_graph graph numbering t is).1 (u, own.there, name)) (meets_match n pattern t low_vars no_cross meets)
+        let own = (listed from.0).0 from.1 in
+        let u = triple_of sp qp op from.0 in
+        (named terms u, subst (λ x. AreValuesOf terms x (named terms u)) (sym (value_is from.0) ∙ from.2) (values_named numbering order p made.counts u own.there))
 
-    -- a triple that meets it has a pair
-    triple_pair : (u : Numbered) → Contains numbering.triples u → named terms u ≡ t → Meets pattern t → triple_of sp qp op (pair_of_triple sp qp op u) ≡ u
-    triple_pair u at name meets =
-        let numbers = numbered_again terms numbering.triples order.ordered order.uses u at in
-        let again : numbers_in terms t ≡ u = ap (numbers_in terms) (sym name) ∙ numbers in
-        triple_again sp qp op u (has_number terms pattern (accepted.no_three_places k pattern stands))
-        (holds_part (all_subjects terms) pattern.subject u.0 t.subject (ap (λ (u : Numbered). u.0) again) meets.subject)
-        (holds_part terms.predicates pattern.predicate u.1 t.predicate (ap (λ (u : Numbered). u.1) again) meets.predicate)
-        (holds_part (all_objects terms) pattern.object u.2 t.object (ap (λ (u : Numbered). u.2) again) meets.object)
+    module _ (graph : List Triple) (n : ℕ) (t : Triple) (is : NumbersGraph graph numbering) (below : HasVarsBelow n (Bgp (pattern ∷ []))) where
+      low_vars : AreBelow n (triple_vars pattern)
+      low_vars v at = All-contains (λ v. v < n) (triple_vars pattern ++ []) v below (Contains-append_left (triple_vars pattern) [] v at)
 
-    has_pair : (u : Numbered) → Contains numbering.triples u → named terms u ≡ t → Meets pattern t → IsPairOf numbering.triples (length terms.shared) sp qp op (pair_of_triple sp qp op u)
-    has_pair u at name meets =
-        let again = triple_pair u at name meets in
-        record {
-          there = subst (Contains numbering.triples) (sym again) at;
-          again = ap (pair_of_triple sp qp op) again;
-          itself = subst (MeetsItself (length terms.shared) sp op) (sym again) (λ v first second.
-              let subject = slice_get-get_or (all_subjects terms) u.0 [] (order.uses.subject u at) ∙ ap Some (ap (λ (t : Triple). t.subject) name) in
-              let same = meets.itself v (has_part (all_subjects terms) pattern.subject v first) (has_part (all_objects terms) pattern.object v second) in
-              let object = slice_get-get_or (all_objects terms) u.2 [] (order.uses.object u at) ∙ ap Some (ap (λ (t : Triple). t.object) name ∙ sym same) in
-              one_number terms u.0 u.2 t.subject order.ordered subject object);
-        }
+      no_cross : (v : ℕ) → IsVar pattern.predicate v → IsVar pattern.subject v ⊎ IsVar pattern.object v → ⊥
+      no_cross v predicate node = accepted.no_cross_place k k pattern pattern v stands stands predicate node
 
-    matches_from : Contains (all_matches as_terms n graph pattern) t → (x : NumberTriple) × Contains (shown value_triple (lists_left p) pattern) x × AreValuesOf terms x t
-    matches_from at =
-        let found = Contains-filter (λ triple. is_some (match_of as_terms n pattern triple)) graph t at in
-        let meets = match_meets n pattern t low_vars found.1 in
-        let (u, there, name) = (in_graph graph numbering t is).0 found.0 in
-        let pair = pair_of_triple sp qp op u in
-        let value : value_triple i pair ≡ valued p u = value_is pair ∙ ap (valued p) (triple_pair u there name meets) in
-        let values = subst (AreValuesOf terms (valued p u)) name (values_named numbering order p (made_laws.counts s tree p accepted made) u there) in
-        (value_triple i pair, Contains-map (value_triple i) (lists_left p i) pair ((listed pair).1 (has_pair u there name meets)), subst (λ x. AreValuesOf terms x t) (sym value) values)
+      -- the triple that a pair stands for meets the triple pattern
+      pair_meets : (pair : ℕ × ℕ) → IsPairOf numbering.triples (length terms.shared) sp qp op pair → Meets pattern (named terms (triple_of sp qp op pair))
+      pair_meets pair own =
+          let u = triple_of sp qp op pair in
+          record {
+            subject = part_meets (all_subjects terms) pattern.subject u.0 (order.uses.subject u own.there) (subject_holds sp qp pair);
+            predicate = part_meets terms.predicates pattern.predicate u.1 (order.uses.predicate u own.there) (predicate_holds qp pair);
+            object = part_meets (all_objects terms) pattern.object u.2 (order.uses.object u own.there) (object_holds sp qp op pair);
+            itself = λ v first second.
+                let one = own.itself v (part_has (all_subjects terms) pattern.subject v first) (part_has (all_objects terms) pattern.object v second) in
+                one_text terms u.0 u.2 one.0 one.1;
+          }
+
+      matches_to : (x : NumberTriple) → Contains (shown value_triple (lists_left p) pattern) x → AreValuesOf terms x t → Contains (all_matches as_terms n graph pattern) t
+      matches_to x at values =
+          let from = from_map (value_triple i) (lists_left p i) x at in
+          let pair = from.0 in
+          let own = (listed pair).0 from.1 in
+          let u = triple_of sp qp op pair in
+          let own_values = subst (λ x. AreValuesOf terms x t) (sym from.2 ∙ value_is pair) values in
+          let name = named_once terms (valued p u) (named terms u) t (values_named numbering order p made.counts u own.there) own_values in
+          let meets = subst (Meets pattern) name (pair_meets pair own) in
+          filter-Contains (λ triple. is_some (match_of as_terms n pattern triple)) graph t ((in_graph graph numbering t is).1 (u, own.there, name)) (meets_match n pattern t low_vars no_cross meets)
+
+      -- a triple that meets it has a pair
+      triple_pair : (u : Numbered) → Contains numbering.triples u → named terms u ≡ t → Meets pattern t → triple_of sp qp op (pair_of_triple sp qp op u) ≡ u
+      triple_pair u at name meets =
+          let numbers = numbered_again terms numbering.triples order.ordered order.uses u at in
+          let again : numbers_in terms t ≡ u = ap (numbers_in terms) (sym name) ∙ numbers in
+          triple_again sp qp op u (has_number terms pattern (accepted.no_three_places k pattern stands))
+          (holds_part (all_subjects terms) pattern.subject u.0 t.subject (ap (λ (u : Numbered). u.0) again) meets.subject)
+          (holds_part terms.predicates pattern.predicate u.1 t.predicate (ap (λ (u : Numbered). u.1) again) meets.predicate)
+          (holds_part (all_objects terms) pattern.object u.2 t.object (ap (λ (u : Numbered). u.2) again) meets.object)
+
+      has_pair : (u : Numbered) → Contains numbering.triples u → named terms u ≡ t → Meets pattern t → IsPairOf numbering.triples (length terms.shared) sp qp op (pair_of_triple sp qp op u)
+      has_pair u at name meets =
+          let again = triple_pair u at name meets in
+          record {
+            there = subst (Contains numbering.triples) (sym again) at;
+            again = ap (pair_of_triple sp qp op) again;
+            itself = subst (MeetsItself (length terms.shared) sp op) (sym again) (λ v first second.
+                let subject = slice_get-get_or (all_subjects terms) u.0 [] (order.uses.subject u at) ∙ ap Some (ap (λ (t : Triple). t.subject) name) in
+                let same = meets.itself v (has_part (all_subjects terms) pattern.subject v first) (has_part (all_objects terms) pattern.object v second) in
+                let object = slice_get-get_or (all_objects terms) u.2 [] (order.uses.object u at) ∙ ap Some (ap (λ (t : Triple). t.object) name ∙ sym same) in
+                one_number terms u.0 u.2 t.subject order.ordered subject object);
+          }
+
+      matches_from : Contains (all_matches as_terms n graph pattern) t → (x : NumberTriple) × Contains (shown value_triple (lists_left p) pattern) x × AreValuesOf terms x t
+      matches_from at =
+          let found = Contains-filter (λ triple. is_some (match_of as_terms n pattern triple)) graph t at in
+          let meets = match_meets n pattern t low_vars found.1 in
+          let (u, there, name) = (in_graph graph numbering t is).0 found.0 in
+          let pair = pair_of_triple sp qp op u in
+          let value : value_triple i pair ≡ valued p u = value_is pair ∙ ap (valued p) (triple_pair u there name meets) in
+          let values = subst (AreValuesOf terms (valued p u)) name (values_named numbering order p made.counts u there) in
+          (value_triple i pair, Contains-map (value_triple i) (lists_left p i) pair ((listed pair).1 (has_pair u there name meets)), subst (λ x. AreValuesOf terms x t) (sym value) values)
 
   pub has_matches : HasMatches numbering tree p
   has_matches = record {
     triple = value_triple;
     reading = reading;
+    counts = made.counts;
     apart = apart;
+    named = λ k pattern x stands at. named_values k pattern stands x at;
     matches = λ graph n k pattern t is stands below. (
-      λ (x, at, values). matches_to graph n k pattern t is stands below x at values,
-      matches_from graph n k pattern t is stands below,
+      λ (x, at, values). matches_to k pattern stands graph n t is below x at values,
+      matches_from k pattern stands graph n t is below,
     );
   }

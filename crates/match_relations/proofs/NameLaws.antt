@@ -17,7 +17,7 @@ use Rattle.tree_relations.specs.declared.prepared.PlaceKind.TheVariants.{Subject
 use Rattle.tree_relations.specs.declared.prepared.Prepared.{Prepared}
 use Rattle.tree_relations.specs.Readings.{NumberTriple, value_of}
 use Rattle.match_relations.specs.Matches.{AreValuesOf}
-use Rattle.match_relations.proofs.EntryLaws.{HasCounts}
+use Rattle.match_relations.specs.Matches.{HasCounts}
 use Rattle.match_relations.proofs.PartLaws.{IsInOrder}
 
 -- the values of a numbered triple

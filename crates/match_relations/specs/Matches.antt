@@ -1,5 +1,5 @@
 -- What relations of a tree stand for: the matches of its triple patterns in the graph of an index.
-use Rattle.std.specs.Prelude.{◌≡◌, ◌↔◌, ℕ, List, [], ◌∷◌, Some, Contains, slice_get}
+use Rattle.std.specs.Prelude.{◌≡◌, ◌↔◌, ℕ, List, [], ◌∷◌, Some, length, Contains, slice_get}
 use Rattle.bm_term.specs.declared.triple.Triple.{Triple}
 use Rattle.alg_model.specs.declared.pattern.TriplePat.{TriplePat}
 use Rattle.alg_model.specs.Eval.{as_terms}
@@ -19,12 +19,22 @@ pub record AreValuesOf (terms : Terms) (x : NumberTriple) (t : Triple) : Type 0 
   pub predicate : slice_get (term_table terms) x.predicate ≡ Some t.predicate
   pub object : slice_get (term_table terms) x.object ≡ Some t.object
 
+-- the counts are those of the terms
+pub record HasCounts (numbering : Numbering) (p : Prepared) : Type 0 where
+  pub shared : p.shared ≡ length numbering.terms.shared
+  pub subjects : p.subjects ≡ length numbering.terms.subjects
+  pub objects : p.objects ≡ length numbering.terms.objects
+  pub predicates : p.predicates ≡ length numbering.terms.predicates
+
 -- The pairs left stand for triples of values, each pair of a relation for one of its own, and those of a triple pattern
--- for the values of just its matches in the graph.
+-- for the values of triples, which are just its matches in the graph.
 pub record HasMatches (numbering : Numbering) (tree : List TreeNode) (p : Prepared) : Type 0 where
   pub triple : ℕ → ℕ × ℕ → NumberTriple
   pub reading : IsReading p triple
+  pub counts : HasCounts numbering p
   pub apart : TellItems triple (lists_left p)
+  pub named : (k : ℕ) (pattern : TriplePat) (x : NumberTriple) → StandsAt tree k pattern → Contains (shown triple (lists_left p) pattern) x →
+      (t : Triple) × AreValuesOf numbering.terms x t
   pub matches : (graph : List Triple) (n k : ℕ) (pattern : TriplePat) (t : Triple) → NumbersGraph graph numbering →
       StandsAt tree k pattern → HasVarsBelow n (Bgp (pattern ∷ [])) →
       ((x : NumberTriple) × Contains (shown triple (lists_left p) pattern) x × AreValuesOf numbering.terms x t)

@@ -6,22 +6,16 @@ use Rattle.pattern_tree.specs.PatternTree.{IsPatternTree}
 use Rattle.pattern_tree.specs.Tree.{TreeNode}
 use Rattle.tree_relations.specs.declared.prepared.Prepared.{Prepared}
 use Rattle.match_relations.specs.declared.borrowed.Borrowed.{Borrowed}
+use Rattle.match_relations.specs.Matches.{HasCounts}
 use Rattle.match_relations.specs.steps.Masks.{AreFew, AreMasks, bare, bare_of, masks_in, widest}
 use Rattle.match_relations.specs.steps.Numbers.{patterns_in, extent_of}
 use Rattle.match_relations.specs.steps.Parts.{AreBorrowed}
-
--- the counts are those of the index
-pub record HasCountsOf (s : Stored) (p : Prepared) : Type 0 where
-  pub shared : p.shared ≡ length s.numbering.terms.shared
-  pub subjects : p.subjects ≡ length s.numbering.terms.subjects
-  pub objects : p.objects ≡ length s.numbering.terms.objects
-  pub predicates : p.predicates ≡ length s.numbering.terms.predicates
 
 pub record IsMade (s : Stored) (tree : List TreeNode) (p : Prepared) : Type 0 where
   pub is_tree : ∥ IsPatternTree tree ∥₁
   pub some : NumbersSomeGraph s.numbering
   pub few : AreFew (counts_of s)
-  pub counts : HasCountsOf s p
+  pub counts : HasCounts s.numbering p
   pub borrowed : List Borrowed
   pub are : AreBorrowed s.numbering (patterns_in tree) borrowed
   pub many : length borrowed ≡ (extent_of (patterns_in tree)).patterns
