@@ -1,5 +1,5 @@
 -- The relation of a triple pattern fits what is prepared with it.
-use Rattle.std.proofs.Common.{◌≡◌, ◌⊎◌, ℕ, ◌+◌, ◌-◌, ◌^◌, ◌<◌, ◌≤◌, inl, inr, List, [], ◌∷◌, length, map, Contains, Option, Some, None, refl, sym, ap, ◌∙◌, subst, arith, length-append}
+use Rattle.std.proofs.Common.{◌≡◌, ◌≢◌, ◌⊎◌, ℕ, ◌+◌, ◌-◌, ◌^◌, ◌<◌, ◌≤◌, inl, inr, List, [], ◌∷◌, length, map, AllPairs, Contains, Option, Some, None, refl, sym, ap, ◌∙◌, subst, arith, length-append}
 use Rattle.std.proofs.lemmas.List.{length-map}
 use Rattle.std.proofs.lemmas.Cmp.{tied_itself}
 use Rattle.std.specs.Cmp.{nat_cmp_total}
@@ -8,6 +8,7 @@ use Rattle.std.specs.Ordering.{nat_cmp, ordering_then}
 use Rattle.std.specs.declared.cmp.Ordering.TheVariants.{Less}
 use Rattle.alg_model.specs.declared.var.Var.{Var}
 use Rattle.bm_term.specs.SetOf.{set_of}
+use Rattle.bm_term.proofs.Sets.{AllPairs-ascending}
 use Rattle.cube_slices.specs.Lines.{Line, LinesAscend, pairs_of}
 use Rattle.cube_slices.specs.Pairs.{ComesBefore, PairsAscend}
 use Rattle.index_file.specs.Families.{pair_cmp}
@@ -43,6 +44,11 @@ unfolding IsStrictlySortedBy
 sorted_pairs rows columns [] ascend = tt
 sorted_pairs rows columns (p ∷ ps) ascend =
     (all_from_members (λ q. pair_cmp p q ≡ Less) ps (λ q at. before p q (behind_first rows columns p ps q ascend at)), sorted_pairs rows columns ps ascend.3)
+
+-- no pair of such lines comes twice
+pub pairs_differ : (ls : List Line) → LinesAscend 0 (2 ^ 32 - 1) (2 ^ 32 - 1) ls → AllPairs (λ x y. x ≢ y) (pairs_of ls)
+pairs_differ ls ascend =
+    AllPairs-ascending pair_cmp pair_cmp-total (pairs_of ls) (sorted_pairs (2 ^ 32 - 1) (2 ^ 32 - 1) (pairs_of ls) (PairsAscend-lines 0 (2 ^ 32 - 1) (2 ^ 32 - 1) ls ascend))
 
 pub few_pairs : (ts : List Numbered) (shared : ℕ) (s p o : Part) (ls : List Line) → LinesAscend 0 (2 ^ 32 - 1) (2 ^ 32 - 1) ls → Lists ts shared s p o ls → length (pairs_of ls) ≤ length ts
 few_pairs ts shared s p o ls ascend lists =

@@ -1,8 +1,9 @@
 -- The pairs of what is made for a tree stand for just the matches of its triple patterns.
-use Rattle.std.proofs.Common.{◌≡◌, ◌↔◌, ◌⊎◌, ℕ, ◌+◌, ◌<◌, ◌++◌, Bool, true, false, List, [], ◌∷◌, length, get_or, Contains, Option, Some, None, is_some, slice_get, nat_lt, if◌then◌else◌, refl, sym, ap, ◌∙◌, subst, arith, length-append}
+use Rattle.std.proofs.Common.{◌≡◌, ◌≢◌, ◌↔◌, ◌⊎◌, ℕ, ◌+◌, ◌<◌, ◌++◌, Bool, true, false, List, [], ◌∷◌, length, get_or, AllPairs, Contains, Option, Some, None, is_some, slice_get, nat_lt, if◌then◌else◌, refl, sym, ap, ◌∙◌, subst, arith, length-append}
 use Rattle.std.proofs.lemmas.Bool.{ltb-true, ltb-false, and_from}
 use Rattle.std.proofs.lemmas.List.Elements.{All-contains, Contains-get_or, Contains-append_left, Contains-append_right}
 use Rattle.std.proofs.lemmas.List.{get_or_append_left}
+use Rattle.std.proofs.lemmas.List.Kept.{AllPairs-filter}
 use Rattle.std.proofs.lemmas.Option.{slice_get-get_or, slice_get_within, get_or_from_slice_get}
 use Rattle.bm_term.proofs.Elements.{Contains-head, Contains-tail, Contains-nil}
 use Rattle.bm_term.specs.declared.triple.Triple.{Triple}
@@ -12,7 +13,7 @@ use Rattle.alg_model.specs.declared.pattern.TriplePat.{TriplePat}
 use Rattle.alg_model.specs.Eval.{as_terms, match_of}
 use Rattle.alg_model.specs.Pattern.{Bgp, HasVarsBelow, IsVar, triple_vars}
 use Rattle.alg_model.proofs.BasicPatterns.{AreBelow}
-use Rattle.alg_model.proofs.Lists.{Contains-flat_map}
+use Rattle.alg_model.proofs.Lists.{AllPairs-option, Contains-flat_map}
 use Rattle.cube_slices.specs.Lines.{pairs_of}
 use Rattle.mask_pool.specs.Mask.{Stretch}
 use Rattle.mask_pool.specs.Region.{words_of}
@@ -44,6 +45,7 @@ use Rattle.match_relations.specs.declared.part.Part.TheVariants.{Variable, Numbe
 use Rattle.match_relations.specs.steps.Made.{IsMade}
 use Rattle.match_relations.specs.steps.Numbers.{patterns_in, with_number}
 use Rattle.match_relations.specs.steps.Parts.{part_of, HasVar, HasNumber, subject_at, predicate_at, object_at, IsPairOf, MeetsItself, number_at, number_or_zero, triple_of, pair_of_triple, subject_part, predicate_part, object_part}
+use Rattle.match_relations.proofs.EntryLaws.{pairs_differ}
 use Rattle.match_relations.proofs.MadeLaws as made_laws
 use Rattle.match_relations.proofs.MeetsLaws.{MeetsPlace, Meets, match_meets, meets_match}
 use Rattle.match_relations.proofs.NameLaws.{valued, values_named, named_once, in_graph, one_number}
@@ -222,6 +224,19 @@ module _ (s : Stored) (tree : List TreeNode) (p : Prepared) (accepted : IsAccept
       let one = valued_once p (by_pattern (Some pattern) x) (by_pattern (Some pattern) y) same in
       sym first ∙ ap (pair_of_triple (subject_part numbering.terms pattern) (predicate_part numbering.terms pattern) (object_part numbering.terms pattern)) one ∙ second
 
+  pairs_once : (found : Option TriplePat) (e : Entry) → made_laws.IsEntryForSome s tree p accepted made found e → AllPairs (λ x y. x ≢ y) (pairs_of e.rel.lines)
+  pairs_once None e is = rw is.lines (AllPairs-option (λ x y. x ≢ y) None)
+  pairs_once (Some pattern) e is = pairs_differ e.rel.lines is.ascend
+
+  once : (i : ℕ) → AllPairs (λ x y. x ≢ y) (lists_left p i)
+  once i = by (slice_get p.entries i) refl
+    where
+      by : (o : Option Entry) → slice_get p.entries i ≡ o → AllPairs (λ x y. x ≢ y) (left_of p o)
+      by None is = AllPairs-option (λ (x y : ℕ × ℕ). x ≢ y) None
+      by (Some e) is =
+          AllPairs-filter (λ x y. x ≢ y) (is_left (words_of p.pool e.rel.first) (words_of p.pool e.rel.second)) (pairs_of e.rel.lines)
+          (pairs_once (with_number (i + 1) (patterns_in tree)) e (made_laws.entry_at s tree p accepted made i e is))
+
   apart : TellItems value_triple (lists_left p)
   apart i x y at_x at_y same = by (slice_get p.entries i) refl at_x
     where
@@ -267,6 +282,22 @@ module _ (s : Stored) (tree : List TreeNode) (p : Prepared) (accepted : IsAccept
         let own = (listed from.0).0 from.1 in
         let u = triple_of sp qp op from.0 in
         (named terms u, subst (λ x. AreValuesOf terms x (named terms u)) (sym (value_is from.0) ∙ from.2) (values_named numbering order p made.counts u own.there))
+
+    -- and the values of one triple are one
+    told_apart : (x y : NumberTriple) (t : Triple) → Contains (shown value_triple (lists_left p) pattern) x → Contains (shown value_triple (lists_left p) pattern) y → AreValuesOf terms x t → AreValuesOf terms y t → x ≡ y
+    told_apart x y t at_x at_y own_x own_y =
+        let from = from_map (value_triple i) (lists_left p i) x at_x in
+        let from' = from_map (value_triple i) (lists_left p i) y at_y in
+        let u = triple_of sp qp op from.0 in
+        let u' = triple_of sp qp op from'.0 in
+        let there = ((listed from.0).0 from.1).there in
+        let there' = ((listed from'.0).0 from'.1).there in
+        let is : valued p u ≡ x = sym (value_is from.0) ∙ from.2 in
+        let is' : valued p u' ≡ y = sym (value_is from'.0) ∙ from'.2 in
+        let name = named_once terms (valued p u) (named terms u) t (values_named numbering order p made.counts u there) (subst (λ x. AreValuesOf terms x t) (sym is) own_x) in
+        let name' = named_once terms (valued p u') (named terms u') t (values_named numbering order p made.counts u' there') (subst (λ x. AreValuesOf terms x t) (sym is') own_y) in
+        let one : u ≡ u' = sym (numbered_again terms numbering.triples order.ordered order.uses u there) ∙ ap (numbers_in terms) (name ∙ sym name') ∙ numbered_again terms numbering.triples order.ordered order.uses u' there' in
+        sym is ∙ ap (valued p) one ∙ is'
 
     module _ (graph : List Triple) (n : ℕ) (t : Triple) (is : NumbersGraph graph numbering) (below : HasVarsBelow n (Bgp (pattern ∷ []))) where
       low_vars : AreBelow n (triple_vars pattern)
@@ -337,7 +368,9 @@ module _ (s : Stored) (tree : List TreeNode) (p : Prepared) (accepted : IsAccept
     triple = value_triple;
     reading = reading;
     counts = made.counts;
+    once = once;
     apart = apart;
+    told = λ k pattern x y t stands at_x at_y own_x own_y. told_apart k pattern stands x y t at_x at_y own_x own_y;
     named = λ k pattern x stands at. named_values k pattern stands x at;
     matches = λ graph n k pattern t is stands below. (
       λ (x, at, values). matches_to k pattern stands graph n t is below x at values,

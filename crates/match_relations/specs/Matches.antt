@@ -1,5 +1,5 @@
 -- What relations of a tree stand for: the matches of its triple patterns in the graph of an index.
-use Rattle.std.specs.Prelude.{◌≡◌, ◌↔◌, ℕ, List, [], ◌∷◌, Some, length, Contains, slice_get}
+use Rattle.std.specs.Prelude.{◌≡◌, ◌≢◌, ◌↔◌, ℕ, List, [], ◌∷◌, Some, length, AllPairs, Contains, slice_get}
 use Rattle.bm_term.specs.declared.triple.Triple.{Triple}
 use Rattle.alg_model.specs.declared.pattern.TriplePat.{TriplePat}
 use Rattle.alg_model.specs.Eval.{as_terms}
@@ -26,15 +26,18 @@ pub record HasCounts (numbering : Numbering) (p : Prepared) : Type 0 where
   pub objects : p.objects ≡ length numbering.terms.objects
   pub predicates : p.predicates ≡ length numbering.terms.predicates
 
--- The pairs left stand for triples of values, each pair of a relation for one of its own, and those of a triple pattern
--- for the values of triples, which are just its matches in the graph.
+-- The pairs left stand for triples of values: no pair comes twice, each stands for a triple of its own, and those of a
+-- triple pattern for the values of triples, each for those of its own, which are just its matches in the graph.
 pub record HasMatches (numbering : Numbering) (tree : List TreeNode) (p : Prepared) : Type 0 where
   pub triple : ℕ → ℕ × ℕ → NumberTriple
   pub reading : IsReading p triple
   pub counts : HasCounts numbering p
+  pub once : (i : ℕ) → AllPairs (λ x y. x ≢ y) (lists_left p i)
   pub apart : TellItems triple (lists_left p)
   pub named : (k : ℕ) (pattern : TriplePat) (x : NumberTriple) → StandsAt tree k pattern → Contains (shown triple (lists_left p) pattern) x →
       (t : Triple) × AreValuesOf numbering.terms x t
+  pub told : (k : ℕ) (pattern : TriplePat) (x y : NumberTriple) (t : Triple) → StandsAt tree k pattern → Contains (shown triple (lists_left p) pattern) x →
+      Contains (shown triple (lists_left p) pattern) y → AreValuesOf numbering.terms x t → AreValuesOf numbering.terms y t → x ≡ y
   pub matches : (graph : List Triple) (n k : ℕ) (pattern : TriplePat) (t : Triple) → NumbersGraph graph numbering →
       StandsAt tree k pattern → HasVarsBelow n (Bgp (pattern ∷ [])) →
       ((x : NumberTriple) × Contains (shown triple (lists_left p) pattern) x × AreValuesOf numbering.terms x t)
