@@ -1,8 +1,9 @@
 -- Which numbers of two kinds of places have the same value.
-use Rattle.std.proofs.Common.{◌≡◌, ◌↔◌, ℕ, ◌+◌, ◌<◌, nat_lt, Option, Some, None, refl, sym, ◌∙◌, arith, inl, inr}
-use Rattle.std.proofs.lemmas.Bool.{nat_tests, cases_lt}
+use Rattle.std.proofs.Common.{◌≡◌, ◌↔◌, ℕ, ◌+◌, ◌<◌, nat_lt, Option, Some, None, true, refl, sym, ◌∙◌, arith, lt-ltb}
+use Rattle.std.proofs.lemmas.Bool.{ltb-true}
+use Rattle.std.proofs.lemmas.Bool.Decides.{nat_tests}
 use Rattle.mask_pool.specs.Region.{Region}
-use Rattle.pattern_rel.specs.Folds.{IsBelow}
+use Rattle.pattern_rel.specs.Folds.{IsBelow, is_below}
 use Rattle.tree_relations.specs.declared.prepared.PlaceKind.{PlaceKind}
 use Rattle.tree_relations.specs.declared.prepared.PlaceKind.TheVariants.{Subject, Object, Predicate}
 use Rattle.tree_relations.specs.declared.prepared.Prepared.{Prepared}
@@ -57,3 +58,13 @@ shared_same p Object Predicate n meet below = (let never = meet.1 refl in cc)
 shared_same p Predicate Subject n meet below = (let never = meet.0 refl in cc)
 shared_same p Predicate Object n meet below = (let never = meet.0 refl in cc)
 shared_same p Predicate Predicate n meet below = refl
+
+-- ---- the cut as a test
+
+pub below-true : (cut : Option ℕ) (n : ℕ) → IsBelow cut n → is_below cut n ≡ true
+below-true None n below = refl
+below-true (Some cut) n below = lt-ltb n cut below
+
+pub true-below : (cut : Option ℕ) (n : ℕ) → is_below cut n ≡ true → IsBelow cut n
+true-below None n below = tt
+true-below (Some cut) n below = ltb-true n cut below

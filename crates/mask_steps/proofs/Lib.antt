@@ -1,2 +1,4 @@
 pub mod KindLaws
 pub mod PlaceLaws
+pub mod HeldLaws
+pub mod StepLaws

@@ -11,6 +11,7 @@ use Rattle.pattern_rel.specs.Folds.{IsUsable, CanFold, Keeps}
 use Rattle.tree_relations.specs.declared.prepared.PlaceKind.TheVariants.{Subject, Object, Predicate}
 use Rattle.tree_relations.specs.declared.prepared.SidePlace.{SidePlace}
 use Rattle.pattern_rel.specs.declared.side.Side.{Side}
+use Rattle.pattern_rel.specs.declared.side.Side.TheVariants.{First, Second}
 use Rattle.pattern_rel.specs.Left.{IsAtSide}
 use Rattle.cube_slices.specs.Lines.{pairs_of}
 use Rattle.tree_relations.specs.declared.prepared.Entry.{Entry}
@@ -34,7 +35,7 @@ module _ {X : Type 0} where
   front_at (z ∷ xs) ys (suc k) x at = front_at xs ys k x at
 
   pub behind_at : (xs ys : List X) (k n : ℕ) → n ≡ length xs + k → slice_get (xs ++ ys) n ≡ slice_get ys k
-  behind_at [] ys k n is = ap (λ (m : ℕ). slice_get ys m) is
+  behind_at [] ys k n is = (let same : n ≡ k = omega arith in ap (λ (m : ℕ). slice_get ys m) same)
   behind_at (x ∷ xs) ys k zero is = absurd (omega arith)
   behind_at (x ∷ xs) ys k (suc n) is = behind_at xs ys k n (omega arith)
 
@@ -125,8 +126,8 @@ module _ (p : Prepared) where
 
     entry_moved : (e : Entry) → FitsEntry p e → FitsEntry (record p { pool = q }) e
     entry_moved e fits = record {
-      first = place_moved _ e e.first fits.first;
-      second = place_moved _ e e.second fits.second;
+      first = place_moved First e e.first fits.first;
+      second = place_moved Second e e.second fits.second;
       itself = itself_moved e e.first e.second fits.itself;
       few = fits.few;
       first_room = fits.first_room;
