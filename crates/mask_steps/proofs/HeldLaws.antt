@@ -77,6 +77,13 @@ value_by p q (Some kind) v x same = (
   λ h. (value_there p q kind v x).1 (h.0, (same h.0).1 h.1, h.2, h.3),
 )
 
+pub values_stay : (p : Prepared) (q : Region) (k s : ℕ) → StayBut p q k s → (kinds fresh : List (Option PlaceKind)) (v x : ℕ) → kind_in fresh v ≡ kind_in kinds v → (v + 1 < length p.work → (v ≢ k) × (v ≢ s)) → HasValue (record p { pool = q }) fresh v x ↔ HasValue p kinds v x
+values_stay p q k s stay kinds fresh v x is apart =
+    let same = value_by p q (kind_in kinds v) v x (λ n. number_stays p q k s stay v n apart) in (
+      λ h. same.0 (subst (λ (o : Option PlaceKind). HasValueOf (record p { pool = q }) o v x) is h),
+      λ h. subst (λ (o : Option PlaceKind). HasValueOf (record p { pool = q }) o v x) (sym is) (same.1 h),
+    )
+
 -- the values held, where the kind of the variable's numbers is known
 pub value_is : (p : Prepared) (kinds : List (Option PlaceKind)) (o : Option PlaceKind) (v x : ℕ) → kind_in kinds v ≡ o → HasValue p kinds v x ↔ HasValueOf p o v x
 value_is p kinds o v x is = (λ h. subst (λ (o : Option PlaceKind). HasValueOf p o v x) is h, λ h. subst (λ (o : Option PlaceKind). HasValueOf p o v x) (sym is) h)

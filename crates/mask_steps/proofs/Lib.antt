@@ -2,3 +2,4 @@ pub mod KindLaws
 pub mod PlaceLaws
 pub mod HeldLaws
 pub mod StepLaws
+pub mod MeasureLaws

@@ -5,14 +5,14 @@ use Rattle.std.specs.List.{flat_map}
 use Rattle.std.proofs.lemmas.Bool.{cases_lt}
 use Rattle.std.proofs.lemmas.Option.{none-some, same_Some, slice_get_within, get_or_from_slice_get}
 use Rattle.std.proofs.lemmas.List.Elements.{All-get_or, All-from_get_or, All-weaker}
-use Rattle.mask_pool.specs.Mask.{Stretch, DoNotOverlap}
+use Rattle.mask_pool.specs.Mask.{Stretch, words_for, DoNotOverlap}
 use Rattle.mask_pool.specs.Region.{Region, IsLive, words_of}
 use Rattle.pattern_rel.specs.Folds.{IsUsable, CanFold, Keeps}
 use Rattle.tree_relations.specs.declared.prepared.PlaceKind.TheVariants.{Subject, Object, Predicate}
 use Rattle.tree_relations.specs.declared.prepared.SidePlace.{SidePlace}
 use Rattle.pattern_rel.specs.declared.side.Side.{Side}
 use Rattle.pattern_rel.specs.declared.side.Side.TheVariants.{First, Second}
-use Rattle.pattern_rel.specs.Left.{IsAtSide}
+use Rattle.pattern_rel.specs.Left.{IsAtSide, own_of}
 use Rattle.cube_slices.specs.Lines.{pairs_of}
 use Rattle.tree_relations.specs.declared.prepared.Entry.{Entry}
 use Rattle.tree_relations.specs.declared.prepared.Prepared.{Prepared}
@@ -40,6 +40,10 @@ module _ {X : Type 0} where
   behind_at (x ∷ xs) ys k (suc n) is = behind_at xs ys k n (omega arith)
 
 -- ---- places
+
+-- fewer bits take no more words
+within_words : (a b : ℕ) → a ≤ b → words_for a ≤ words_for b
+within_words a b le = omega arith
 
 -- the masks of relations, one after the other
 abbrev pub own_masks : List Entry → List Stretch
@@ -110,6 +114,17 @@ module _ (p : Prepared) where
         first_apart = apart_at fits v (first_place p i) m e.rel.first (work_at v m work) (first_at i e at) (omega arith);
         second_apart = apart_at fits v (second_place p i) m e.rel.second (work_at v m work) (second_at i e at) (omega arith);
       }
+
+  -- there is room for a side's numbers in a working mask
+  pub room_at : FitsTogether p → (i v : ℕ) (e : Entry) (m : Stretch) (side : Side) → slice_get p.entries i ≡ Some e → slice_get p.work v ≡ Some m → words_for (own_of side e.rel).bits ≤ words_for m.bits
+  room_at fits i v e m First at work =
+      let size : m.bits ≡ work_bits p = all_at (λ (m : Stretch). m.bits ≡ work_bits p) p.work v m fits.work work in
+      let room = (entry_at fits i e at).first_room in
+      within_words e.rel.first.bits m.bits (subst (λ (n : ℕ). e.rel.first.bits ≤ n) (sym size) room)
+  room_at fits i v e m Second at work =
+      let size : m.bits ≡ work_bits p = all_at (λ (m : Stretch). m.bits ≡ work_bits p) p.work v m fits.work work in
+      let room = (entry_at fits i e at).second_room in
+      within_words e.rel.second.bits m.bits (subst (λ (n : ℕ). e.rel.second.bits ≤ n) (sym size) room)
 
   -- ---- another pool
 

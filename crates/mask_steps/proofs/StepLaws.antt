@@ -16,10 +16,17 @@ use Rattle.tree_relations.specs.declared.prepared.Entry.{Entry}
 use Rattle.tree_relations.specs.declared.prepared.Prepared.{Prepared}
 use Rattle.tree_relations.specs.Prepared.{count_of}
 use Rattle.tree_relations.specs.Readings.{value_of, EntryGives, lists_left}
-use Rattle.mask_steps.specs.Held.{HasNumber, HasValueOf, GivesAt, OccursAt}
+use Rattle.mask_steps.specs.Held.{kind_in, HasNumber, HasValueOf, HasValue, GivesAt, OccursAt}
 use Rattle.mask_steps.specs.steps.Cuts.{cut_of}
 use Rattle.mask_steps.proofs.KindLaws.{values_meet, values_same, below-true, true-below}
-use Rattle.mask_steps.proofs.HeldLaws.{left_at, value_there, number_in, TakenAt, pair_gives, number_small, has_mask, at_side, left_there}
+use Rattle.mask_steps.proofs.HeldLaws.{left_at, value_there, value_is, number_in, TakenAt, pair_gives, number_small, has_mask, at_side, left_there}
+
+-- a mask that is met with a fold, in other words
+pub met_folded : {S : Type 0} (fresh between old spare : List ℕ) (cut is : Option ℕ) (n : ℕ) → between ≡ old → cut ≡ is → Has spare n ↔ S → Has fresh n ↔ (Has between n × Has spare n × IsBelow cut n) → Has fresh n ↔ (Has old n × S × IsBelow is n)
+met_folded fresh between old spare cut is n same bound folded both = (
+  λ h. (let b = both.0 h in (subst (λ (words : List ℕ). Has words n) same b.0, folded.0 b.1, subst (λ (o : Option ℕ). IsBelow o n) bound b.2)),
+  λ h. both.1 (subst (λ (words : List ℕ). Has words n) (sym same) h.0, folded.1 h.1, subst (λ (o : Option ℕ). IsBelow o n) (sym bound) h.2),
+)
 
 module _ (p : Prepared) (i v : ℕ) (e : Entry) (side : Side) (kind : PlaceKind) (at : slice_get p.entries i ≡ Some e) (taken : TakenAt p e v side kind) where
   -- the pairs of the entry in the place give what those of the entry do
@@ -79,6 +86,19 @@ module _ (p : Prepared) (i v : ℕ) (e : Entry) (side : Side) (kind : PlaceKind)
         let had = subst (λ (k : ℕ). Has (words_of p.pool m) k) (sym meet.0) ((number_in p v old.0 m work (has_mask p e v side kind taken)).0 old.1) in
         (value_there p q held v x).1 (n, (new_number n).1 ((met n).1 (had, there, meet.1)), subst (λ (k : ℕ). k < count_of p held) (sym meet.0) old.2, ap (λ (k : ℕ). value_of p held k) meet.0 ∙ old.3)),
     )
+
+    pub values_first : (kinds fresh : List (Option PlaceKind)) → kind_in kinds v ≡ None → kind_in fresh v ≡ Some kind → ((n : ℕ) → Has (words_of q m) n ↔ IsAtSide side (pairs_left p.pool e.rel) n) → (x : ℕ) → HasValue (record p { pool = q }) fresh v x ↔ (HasValue p kinds v x × OccursAt p i v x)
+    values_first kinds fresh none some folded x =
+        let gathered = first_gathered folded x in
+        let is = value_is (record p { pool = q }) fresh (Some kind) v x some in
+        (λ h. ((value_is p kinds None v x none).1 tt, gathered.0 (is.0 h)), λ h. is.1 (gathered.1 h.1))
+
+    pub values_later : (kinds : List (Option PlaceKind)) (held : PlaceKind) → kind_in kinds v ≡ Some held → ((n : ℕ) → Has (words_of q m) n ↔ (Has (words_of p.pool m) n × IsAtSide side (pairs_left p.pool e.rel) n × IsBelow (cut_of p.shared kind held) n)) → (x : ℕ) → HasValue (record p { pool = q }) kinds v x ↔ (HasValue p kinds v x × OccursAt p i v x)
+    values_later kinds held some met x =
+        let gathered = later_gathered held met x in
+        let is = value_is (record p { pool = q }) kinds (Some held) v x some in
+        let was = value_is p kinds (Some held) v x some in
+        (λ h. (let g = gathered.0 (is.0 h) in (was.1 g.0, g.1)), λ h. is.1 (gathered.1 (was.0 h.0, h.1)))
 
   -- a pair is kept by a mask exactly where it gives the variable a value that it holds
   pub spread_keeps : (m : Stretch) → slice_get p.work v ≡ Some m → (held : PlaceKind) (t : ℕ × ℕ) → Contains (pairs_left p.pool e.rel) t → (is_kept side (words_of p.pool m) (cut_of p.shared kind held) t ≡ true) ↔ ((x : ℕ) × HasValueOf p (Some held) v x × GivesAt p i t v x)
