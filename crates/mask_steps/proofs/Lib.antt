@@ -3,3 +3,4 @@ pub mod PlaceLaws
 pub mod HeldLaws
 pub mod StepLaws
 pub mod MeasureLaws
+pub mod OwnLaws

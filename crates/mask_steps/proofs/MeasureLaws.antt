@@ -2,7 +2,7 @@
 use Rattle.std.proofs.Common.{◌≡◌, ◌≢◌, ◌↔◌, ℕ, zero, suc, ◌+◌, ◌*◌, ◌<◌, ◌≤◌, ◌&&◌, ◌==◌, List, [], ◌∷◌, length, filter, Bool, true, false, inl, inr, Option, Some, None, refl, sym, ap, subst, ◌∙◌, arith}
 use Rattle.std.specs.Prelude.{slice_get, Contains, sum_by}
 use Rattle.std.specs.List.{range_with_len}
-use Rattle.std.proofs.lemmas.Bool.{cases_Bool, both_ways}
+use Rattle.std.proofs.lemmas.Bool.{cases_Bool, cases_eq, both_ways}
 use Rattle.std.proofs.lemmas.List.Elements.{filter_agree}
 use Rattle.std.proofs.lemmas.List.Sums.{sum_by-cons}
 use Rattle.std.proofs.lemmas.Option.{none-some, same_Some}
@@ -132,3 +132,35 @@ bits_stay p q k s stay work also = go p.entries (λ i e at.
         let head = same zero e refl in
         let rest = go entries (λ i d at. same (suc i) d at) in
         fs ∙ (omega arith ∙ sym gs)
+
+-- ---- one mask of a relation is narrowed
+
+-- a mask that was narrowed has no number more
+pub narrowed_within : (p : Prepared) (q : Region) (m : Stretch) → IsLive p.pool m → IsLive q m → ((n : ℕ) → Has (words_of q m) n → Has (words_of p.pool m) n) → IsWithin (words_of q m) (words_of p.pool m)
+narrowed_within p q m was live less = (length-words_of q m live ∙ sym (length-words_of p.pool m was), less)
+
+module _ (p : Prepared) (q : Region) (i : ℕ) (e : Entry) (at : slice_get p.entries i ≡ Some e) where
+  -- the first mask of the entry in a place is narrowed, and no other is written
+  pub first_narrows : StayBut p q (first_place p i) (first_place p i) → IsWithin (words_of q e.rel.first) (words_of p.pool e.rel.first) → Narrows p (record p { pool = q })
+  first_narrows stay within = narrows_by p q (λ j d there. elim (cases_eq j i) [
+    | inl is ↦ (let same = same_Some e d (sym at ∙ (ap (λ (k : ℕ). slice_get p.entries k) (sym is) ∙ there)) in record {
+      first = subst (λ (x : Entry). IsWithin (words_of q x.rel.first) (words_of p.pool x.rel.first)) same within;
+      second = within_itself _ _ (second_stays p q (first_place p i) (first_place p i) stay j d there (omega arith) (omega arith));
+    })
+    | inr differ ↦ record {
+      first = within_itself _ _ (first_stays p q (first_place p i) (first_place p i) stay j d there (omega arith) (omega arith));
+      second = within_itself _ _ (second_stays p q (first_place p i) (first_place p i) stay j d there (omega arith) (omega arith));
+    }
+  ])
+
+  pub second_narrows : StayBut p q (second_place p i) (second_place p i) → IsWithin (words_of q e.rel.second) (words_of p.pool e.rel.second) → Narrows p (record p { pool = q })
+  second_narrows stay within = narrows_by p q (λ j d there. elim (cases_eq j i) [
+    | inl is ↦ (let same = same_Some e d (sym at ∙ (ap (λ (k : ℕ). slice_get p.entries k) (sym is) ∙ there)) in record {
+      first = within_itself _ _ (first_stays p q (second_place p i) (second_place p i) stay j d there (omega arith) (omega arith));
+      second = subst (λ (x : Entry). IsWithin (words_of q x.rel.second) (words_of p.pool x.rel.second)) same within;
+    })
+    | inr differ ↦ record {
+      first = within_itself _ _ (first_stays p q (second_place p i) (second_place p i) stay j d there (omega arith) (omega arith));
+      second = within_itself _ _ (second_stays p q (second_place p i) (second_place p i) stay j d there (omega arith) (omega arith));
+    }
+  ])
