@@ -57,5 +57,24 @@ module _ (p : Prepared) (fits : FitsTogether p) (i : ℕ) (e : Entry) (at : slic
     pub own_layout : HasLayoutOf p (record p { pool = q })
     own_layout = record { same = refl; fits = together_moved p q fits keeps.live }
 
-    pub own_within : ((n : ℕ) → Has (words_of q (own_of side e.rel)) n → Has (words_of p.pool (own_of side e.rel)) n) → Narrows p (record p { pool = q })
-    own_within less = narrowed_within p q (own_of side e.rel) (own_usable side).live (keeps.live (own_of side e.rel) (own_usable side).live) less
+  -- no other list changes
+  pub others_stay : (side : Side) (q : Region) → Keeps p.pool q (own_of side e.rel) → (j : ℕ) → j ≢ i → lists_left (record p { pool = q }) j ≡ lists_left p j
+  others_stay First q keeps j differ =
+      let stay = own_stay First q keeps in
+      lists_by p q j (λ d there. left_same p.pool q d.rel
+        (first_stays p q (first_place p i) (first_place p i) stay j d there (omega arith) (omega arith))
+        (second_stays p q (first_place p i) (first_place p i) stay j d there (omega arith) (omega arith)))
+  others_stay Second q keeps j differ =
+      let stay = own_stay Second q keeps in
+      lists_by p q j (λ d there. left_same p.pool q d.rel
+        (first_stays p q (second_place p i) (second_place p i) stay j d there (omega arith) (omega arith))
+        (second_stays p q (second_place p i) (second_place p i) stay j d there (omega arith) (omega arith)))
+
+  -- the measure is no more
+  pub own_narrows : (side : Side) (q : Region) → Keeps p.pool q (own_of side e.rel) → ((n : ℕ) → Has (words_of q (own_of side e.rel)) n → Has (words_of p.pool (own_of side e.rel)) n) → Narrows p (record p { pool = q })
+  own_narrows First q keeps less =
+      let live = (own_usable First).live in
+      first_narrows p q i e at (own_stay First q keeps) (narrowed_within p q e.rel.first live (keeps.live e.rel.first live) less)
+  own_narrows Second q keeps less =
+      let live = (own_usable Second).live in
+      second_narrows p q i e at (own_stay Second q keeps) (narrowed_within p q e.rel.second live (keeps.live e.rel.second live) less)
