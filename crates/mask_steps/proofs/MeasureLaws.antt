@@ -1,19 +1,20 @@
 -- How many numbers masks have, where none has a number more.
-use Rattle.std.proofs.Common.{◌≡◌, ◌≢◌, ◌↔◌, ℕ, zero, suc, ◌+◌, ◌*◌, ◌<◌, ◌≤◌, ◌&&◌, ◌==◌, List, [], ◌∷◌, length, filter, Bool, true, false, inl, inr, Option, Some, None, refl, sym, ap, subst, ◌∙◌, arith}
+use Rattle.std.proofs.Common.{◌≡◌, ◌≢◌, ◌↔◌, ℕ, zero, suc, ◌+◌, ◌*◌, ◌<◌, ◌≤◌, ◌^◌, ◌&&◌, ◌==◌, List, [], ◌∷◌, length, filter, take, Bool, true, false, inl, inr, Option, Some, None, refl, sym, ap, subst, ◌∙◌, arith}
 use Rattle.std.specs.Prelude.{slice_get, Contains, sum_by}
 use Rattle.std.specs.List.{range_with_len}
 use Rattle.std.proofs.lemmas.Bool.{cases_Bool, cases_eq, both_ways}
 use Rattle.std.proofs.lemmas.List.Elements.{filter_agree}
-use Rattle.std.proofs.lemmas.List.Sums.{sum_by-cons}
-use Rattle.std.proofs.lemmas.Option.{none-some, same_Some}
+use Rattle.std.proofs.lemmas.List.Sums.{sum_by-cons, sum_by_more}
+use Rattle.std.proofs.lemmas.Option.{none-some, same_Some, slice_get_within, get_or_from_slice_get}
 use Rattle.row_lanes.specs.Words.{bit_of, Has, numbers_in}
 use Rattle.row_lanes.proofs.NumberLaws.{Contains-numbers_in}
-use Rattle.mask_pool.specs.Mask.{Stretch}
+use Rattle.mask_pool.specs.Mask.{Stretch, words_for}
 use Rattle.mask_pool.specs.Region.{Region, IsLive, words_of}
 use Rattle.mask_pool.proofs.Loans.{length-words_of}
 use Rattle.cube_slices.specs.Lines.{pairs_of}
 use Rattle.pattern_rel.specs.Left.{Relation, pairs_left, is_in, is_left}
 use Rattle.pattern_rel.proofs.PairLaws.{Contains-filter, Contains-front, none_there, is_in-has}
+use Rattle.pattern_rel.specs.Folds.{IsUsable}
 use Rattle.tree_relations.specs.declared.prepared.Entry.{Entry}
 use Rattle.tree_relations.specs.declared.prepared.Prepared.{Prepared}
 use Rattle.tree_relations.specs.Prepared.{FitsTogether, masks_of}
@@ -132,6 +133,25 @@ bits_stay p q k s stay work also = go p.entries (λ i e at.
         let head = same zero e refl in
         let rest = go entries (λ i d at. same (suc i) d at) in
         fs ∙ (omega arith ∙ sym gs)
+
+-- ---- the count
+
+-- the words of a mask that can be used are few
+pub few_words : (pool : Region) (m own : Stretch) (n : ℕ) → m ≡ own → n ≡ words_for m.bits → IsUsable pool own → n ≤ 2 ^ 25
+few_words pool m own n is len usable = len-few n m (subst (λ (s : Stretch). words_for s.bits ≤ 2 ^ 25) (sym is) usable.few) len
+  where
+    len-few : (n : ℕ) (m : Stretch) → words_for m.bits ≤ 2 ^ 25 → n ≡ words_for m.bits → n ≤ 2 ^ 25
+    len-few n m few len = omega (arith, few, len)
+
+pub counted : (pool : Region) (m own : Stretch) (words : List ℕ) (n : ℕ) → m ≡ own → words ≡ words_of pool m → n ≡ length (numbers_in words) → n ≡ length (numbers_in (words_of pool own))
+counted pool m own words n is read count = count ∙ (ap (λ (ws : List ℕ). length (numbers_in ws)) read ∙ ap (λ (s : Stretch). length (numbers_in (words_of pool s))) is)
+
+-- one relation more
+pub bits_more : (p : Prepared) (i : ℕ) (e : Entry) (total first second : ℕ) → slice_get p.entries i ≡ Some e → total ≡ sum_by (λ (e : Entry). relation_bits p.pool e.rel) (take i p.entries) → first ≡ length (numbers_in (words_of p.pool e.rel.first)) → second ≡ length (numbers_in (words_of p.pool e.rel.second)) → total + (first + second) ≡ sum_by (λ (e : Entry). relation_bits p.pool e.rel) (take (i + 1) p.entries)
+bits_more p i e total first second at sum one other =
+    let more = sum_by_more (λ (e : Entry). relation_bits p.pool e.rel) p.entries i e (slice_get_within p.entries i e at) in
+    let here = ap (λ (d : Entry). relation_bits p.pool d.rel) (get_or_from_slice_get p.entries i e e at) in
+    omega (arith, more, here, sum, one, other)
 
 -- ---- one mask of a relation is narrowed
 

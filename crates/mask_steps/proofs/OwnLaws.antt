@@ -1,6 +1,8 @@
 -- What a step leaves that narrows one mask of a relation.
-use Rattle.std.proofs.Common.{◌≡◌, ◌≢◌, ◌↔◌, ℕ, zero, suc, ◌+◌, ◌*◌, ◌<◌, ◌≤◌, ◌&&◌, List, [], ◌∷◌, length, filter, Bool, true, false, inl, inr, Option, Some, None, refl, sym, ap, subst, ◌∙◌, arith}
-use Rattle.std.specs.Prelude.{slice_get, Contains}
+use Rattle.std.proofs.Common.{◌≡◌, ◌≢◌, ◌↔◌, ℕ, zero, suc, ◌+◌, ◌*◌, ◌<◌, ◌≤◌, ◌&&◌, List, [], ◌∷◌, length, filter, Bool, true, false, inl, inr, Option, Some, None, is_some, refl, sym, ap, subst, ◌∙◌, arith}
+use Rattle.std.specs.Prelude.{slice_get, Contains, IsTrue}
+use Rattle.std.specs.List.{find}
+use Rattle.std.specs.Option.{option_map}
 use Rattle.std.proofs.lemmas.Bool.{cases_Bool, cases_eq}
 use Rattle.std.proofs.lemmas.Option.{same_Some, slice_get_within}
 use Rattle.row_lanes.specs.Words.{Has}
@@ -8,18 +10,21 @@ use Rattle.mask_pool.specs.Mask.{Stretch, DoNotOverlap}
 use Rattle.mask_pool.specs.Region.{Region, IsLive, words_of}
 use Rattle.cube_slices.specs.Lines.{pairs_of}
 use Rattle.pattern_rel.specs.Left.{Relation, pairs_left, is_in, is_left, own_of}
+use Rattle.pattern_rel.specs.Bounds.{as_pair, is_wanted}
+use Rattle.pattern_rel.specs.declared.bound.Pair.{Pair}
 use Rattle.pattern_rel.specs.Folds.{IsUsable, CanFold, Keeps}
 use Rattle.pattern_rel.specs.declared.side.Side.{Side}
 use Rattle.pattern_rel.specs.declared.side.Side.TheVariants.{First, Second}
-use Rattle.pattern_rel.proofs.PairLaws.{is_in-has}
+use Rattle.pattern_rel.proofs.PairLaws.{Contains-front, none_there, is_in-has}
+use Rattle.tree_relations.specs.declared.prepared.PlaceKind.{PlaceKind}
 use Rattle.tree_relations.specs.declared.prepared.Entry.{Entry}
 use Rattle.tree_relations.specs.declared.prepared.Prepared.{Prepared}
 use Rattle.tree_relations.specs.Prepared.{FitsTogether, masks_of}
 use Rattle.tree_relations.specs.Readings.{lists_left}
-use Rattle.mask_steps.specs.Held.{HasLayoutOf}
+use Rattle.mask_steps.specs.Held.{HasValue, HasLayoutOf}
 use Rattle.mask_steps.specs.Measure.{Narrows}
 use Rattle.mask_steps.proofs.PlaceLaws.{StayBut, first_place, second_place, first_at, second_at, usable_at, apart_at, stay_one, together_moved}
-use Rattle.mask_steps.proofs.HeldLaws.{lists_by, left_same, first_stays, second_stays}
+use Rattle.mask_steps.proofs.HeldLaws.{lists_by, left_same, first_stays, second_stays, values_stay}
 use Rattle.mask_steps.proofs.MeasureLaws.{narrowed_within, first_narrows, second_narrows}
 
 -- no pair is left where the first mask has no number
@@ -32,6 +37,16 @@ none_left q rel none = go (pairs_of rel.lines)
       | inl has ↦ absurd (none t.0 ((is_in-has (words_of q rel.first) t.0).0 has))
       | inr fails ↦ rw fails (go ts)
     ]
+
+-- the first pair of all, if there is one
+pub some_left : (ts : List (ℕ × ℕ)) (found : Option Pair) (some : Bool) → found ≡ option_map as_pair (find (is_wanted (record { first = None; second = None }) None) ts) → some ≡ is_some found → IsTrue some ↔ ((t : ℕ × ℕ) × Contains ts t)
+some_left [] found some is decides = (λ h. absurd (subst (λ (b : Bool). IsTrue b) (decides ∙ ap (λ (o : Option Pair). is_some o) is) h), λ h. absurd (none_there h.0 h.1))
+some_left (t ∷ ts) found some is decides = (λ h. (t, (Contains-front t ts t).1 (inl refl)), λ h. subst (λ (b : Bool). IsTrue b) (sym (decides ∙ ap (λ (o : Option Pair). is_some o) is)) tt)
+
+-- a list is what it is where each passes
+pub in_itself : (ts : List (ℕ × ℕ)) → ts ≡ filter (λ t. true) ts
+in_itself [] = refl
+in_itself (t ∷ ts) = ap (λ (us : List (ℕ × ℕ)). t ∷ us) (in_itself ts)
 
 -- the place of a relation's mask among all masks
 abbrev pub own_place : Prepared → ℕ → Side → ℕ
@@ -78,3 +93,13 @@ module _ (p : Prepared) (fits : FitsTogether p) (i : ℕ) (e : Entry) (at : slic
   own_narrows Second q keeps less =
       let live = (own_usable Second).live in
       second_narrows p q i e at (own_stay Second q keeps) (narrowed_within p q e.rel.second live (keeps.live e.rel.second live) less)
+
+  own_past : (side : Side) → length p.work ≤ own_place p i side
+  own_past First = omega arith
+  own_past Second = omega arith
+
+  -- no variable's values change
+  pub own_values : (side : Side) (q : Region) → Keeps p.pool q (own_of side e.rel) → (kinds : List (Option PlaceKind)) (v x : ℕ) → HasValue (record p { pool = q }) kinds v x ↔ HasValue p kinds v x
+  own_values side q keeps kinds v x =
+      let past = own_past side in
+      values_stay p q (own_place p i side) (own_place p i side) (own_stay side q keeps) kinds kinds v x refl (λ within. (omega arith, omega arith))

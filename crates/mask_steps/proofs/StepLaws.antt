@@ -118,3 +118,32 @@ module _ (p : Prepared) (i v : ℕ) (e : Entry) (side : Side) (kind : PlaceKind)
           let had = subst (λ (k : ℕ). Has (words_of p.pool m) k) (sym meet.0) ((number_in p v old.0 m work (has_mask p e v side kind taken)).0 old.1) in
           and_from (is_in (words_of p.pool m) n) (is_below (cut_of p.shared kind held) n) ((is_in-has (words_of p.pool m) n).1 had) (below-true (cut_of p.shared kind held) n meet.1)),
       )
+
+  -- so the pairs left afterwards are those
+  pub spread_left : (m : Stretch) → slice_get p.work v ≡ Some m → (q : Region) (kinds : List (Option PlaceKind)) (held : PlaceKind) (cut : Option ℕ) → kind_in kinds v ≡ Some held → cut ≡ cut_of p.shared kind held → pairs_left q e.rel ≡ filter (is_kept side (words_of p.pool m) cut) (pairs_left p.pool e.rel) → (t : ℕ × ℕ) → Contains (lists_left (record p { pool = q }) i) t ↔ (Contains (lists_left p i) t × ((x : ℕ) × HasValue p kinds v x × GivesAt p i t v x))
+  spread_left m work q kinds held cut some bound left t =
+      let new = left_at (record p { pool = q }) i e at in
+      let old = left_at p i e at in
+      let kept = Contains-filter (is_kept side (words_of p.pool m) cut) (pairs_left p.pool e.rel) t in
+      let cuts = λ (is : is_kept side (words_of p.pool m) cut t ≡ true). subst (λ (o : Option ℕ). is_kept side (words_of p.pool m) o t ≡ true) bound is in
+      let back = λ (is : is_kept side (words_of p.pool m) (cut_of p.shared kind held) t ≡ true). subst (λ (o : Option ℕ). is_kept side (words_of p.pool m) o t ≡ true) (sym bound) is in (
+        λ h. (let k = kept.0 (subst (λ (ts : List (ℕ × ℕ)). Contains ts t) (new ∙ left) h) in
+          let w = (spread_keeps m work held t k.0).0 (cuts k.1) in
+          (subst (λ (ts : List (ℕ × ℕ)). Contains ts t) (sym old) k.0, (w.0, (value_is p kinds (Some held) v w.0 some).1 w.1, w.2))),
+        λ h. (let there = subst (λ (ts : List (ℕ × ℕ)). Contains ts t) old h.0 in
+          let w = h.1 in
+          subst (λ (ts : List (ℕ × ℕ)). Contains ts t) (sym (new ∙ left)) (kept.1 (there, back ((spread_keeps m work held t there).1 (w.0, (value_is p kinds (Some held) v w.0 some).0 w.1, w.2))))),
+      )
+
+  -- a variable that holds all values keeps all pairs
+  pub all_given : (kinds : List (Option PlaceKind)) → kind_in kinds v ≡ None → (t : ℕ × ℕ) → Contains (lists_left p i) t ↔ (Contains (lists_left p i) t × ((x : ℕ) × HasValue p kinds v x × GivesAt p i t v x))
+  all_given kinds none t = (
+    λ h. (let there = left_there p.pool e.rel t (subst (λ (ts : List (ℕ × ℕ)). Contains ts t) (left_at p i e at) h) in
+      let x = value_of p kind (number_at side t) in
+      (h, (x, (value_is p kinds None v x none).1 tt, (gives_at t x).1 ((pair_gives p e v side kind taken t x there).1 refl)))),
+    λ h. h.0,
+  )
+
+-- the list of a place is filtered where its pairs are
+pub spread_order : (p : Prepared) (i : ℕ) (e : Entry) → slice_get p.entries i ≡ Some e → (q : Region) (test : ℕ × ℕ → Bool) → pairs_left q e.rel ≡ filter test (pairs_left p.pool e.rel) → lists_left (record p { pool = q }) i ≡ filter test (lists_left p i)
+spread_order p i e at q test left = left_at (record p { pool = q }) i e at ∙ (left ∙ sym (ap (λ (ts : List (ℕ × ℕ)). filter test ts) (left_at p i e at)))
