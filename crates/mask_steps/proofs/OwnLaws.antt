@@ -3,7 +3,7 @@ use Rattle.std.proofs.Common.{◌≡◌, ◌≢◌, ◌↔◌, ℕ, zero, suc, �
 use Rattle.std.specs.Prelude.{slice_get, Contains, IsTrue}
 use Rattle.std.specs.List.{find}
 use Rattle.std.specs.Option.{option_map}
-use Rattle.std.proofs.lemmas.Bool.{cases_Bool, cases_eq}
+use Rattle.std.proofs.lemmas.Bool.{both_ways, cases_Bool}
 use Rattle.std.proofs.lemmas.Option.{same_Some, slice_get_within}
 use Rattle.row_lanes.specs.Words.{Has}
 use Rattle.mask_pool.specs.Mask.{Stretch, DoNotOverlap}
@@ -40,8 +40,8 @@ none_left q rel none = go (pairs_of rel.lines)
 
 -- the first pair of all, if there is one
 pub some_left : (ts : List (ℕ × ℕ)) (found : Option Pair) (some : Bool) → found ≡ option_map as_pair (find (is_wanted (record { first = None; second = None }) None) ts) → some ≡ is_some found → IsTrue some ↔ ((t : ℕ × ℕ) × Contains ts t)
-some_left [] found some is decides = (λ h. absurd (subst (λ (b : Bool). IsTrue b) (decides ∙ ap (λ (o : Option Pair). is_some o) is) h), λ h. absurd (none_there h.0 h.1))
-some_left (t ∷ ts) found some is decides = (λ h. (t, (Contains-front t ts t).1 (inl refl)), λ h. subst (λ (b : Bool). IsTrue b) (sym (decides ∙ ap (λ (o : Option Pair). is_some o) is)) tt)
+some_left [] found some is decides = (λ h. absurd (both_ways some (decides ∙ ap (λ (o : Option Pair). is_some o) is) h), λ h. absurd (none_there h.0 h.1))
+some_left (t ∷ ts) found some is decides = (λ h. (t, (Contains-front t ts t).1 (inl refl)), λ h. decides ∙ ap (λ (o : Option Pair). is_some o) is)
 
 -- a list is what it is where each passes
 pub in_itself : (ts : List (ℕ × ℕ)) → ts ≡ filter (λ t. true) ts

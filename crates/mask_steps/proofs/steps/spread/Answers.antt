@@ -38,7 +38,7 @@ returns-in-Some-clause-layout c = own_layout c.args.prepared.now c.requires.fits
 pub returns-in_default-clause-left : goal.returns-in_default-clause-left
 returns-in_default-clause-left c =
     let taken = taken_at c.args.prepared.now c.args.i c.args.var.0 c.get-entry.result.now c.side_of-side.result.0 c.side_of-side.result.1 c.requires.fits c.requires.there c.get-entry.ensures c.side_of-side.ensures in
-    all_given c.args.prepared.now c.args.i c.args.var.0 c.get-entry.result.now c.side_of-side.result.0 c.side_of-side.result.1 c.get-entry.ensures taken c.args.kinds.now ?
+    all_given c.args.prepared.now c.args.i c.args.var.0 c.get-entry.result.now c.side_of-side.result.0 c.side_of-side.result.1 c.get-entry.ensures taken c.args.kinds.now (sym c.kind.ensures ∙ c.in_default.is)
 
 pub returns-in_default-clause-in_order : goal.returns-in_default-clause-in_order
 returns-in_default-clause-in_order c = ((λ t. true), in_itself _)
