@@ -1,5 +1,5 @@
 -- How many numbers masks have, where none has a number more.
-use Rattle.std.proofs.Common.{◌≡◌, ◌≢◌, ◌↔◌, ℕ, zero, suc, ◌+◌, ◌*◌, ◌<◌, ◌≤◌, ◌^◌, ◌&&◌, ◌==◌, List, [], ◌∷◌, length, filter, take, Bool, true, false, inl, inr, Option, Some, None, refl, sym, ap, subst, ◌∙◌, arith}
+use Rattle.std.proofs.Common.{◌≡◌, ℕ, zero, suc, ◌+◌, ◌*◌, ◌<◌, ◌≤◌, ◌^◌, ◌&&◌, ◌==◌, List, [], ◌∷◌, length, filter, take, Bool, true, inl, inr, Some, refl, sym, ap, subst, ◌∙◌, arith}
 use Rattle.std.specs.Prelude.{slice_get, Contains, sum_by}
 use Rattle.std.specs.List.{range_with_len}
 use Rattle.std.proofs.lemmas.Bool.{cases_Bool, cases_eq, both_ways}
@@ -17,7 +17,6 @@ use Rattle.pattern_rel.proofs.PairLaws.{Contains-filter, Contains-front, none_th
 use Rattle.pattern_rel.specs.Folds.{IsUsable}
 use Rattle.tree_relations.specs.declared.prepared.Entry.{Entry}
 use Rattle.tree_relations.specs.declared.prepared.Prepared.{Prepared}
-use Rattle.tree_relations.specs.Prepared.{FitsTogether, masks_of}
 use Rattle.mask_steps.specs.Measure.{relation_bits, mask_bits, Narrows}
 use Rattle.mask_steps.proofs.PlaceLaws.{StayBut, first_place, second_place}
 use Rattle.mask_steps.proofs.HeldLaws.{lists_by, first_stays, second_stays}
@@ -48,16 +47,22 @@ module _ (p q : ℕ → Bool) (less : (n : ℕ) → q n ≡ true → p n ≡ tru
   filter_within (x ∷ xs) =
       let rest = filter_within xs in
       elim (cases_Bool (q x)) [
-        | inl strict ↦ (let also = less x strict in rw (strict, also) (omega (arith, rest.0), λ is n there passes. elim ((Contains-front x xs n).0 there) [
-          | inl same ↦ subst (λ (m : ℕ). q m ≡ true) same strict
-          | inr later ↦ rest.1 (omega arith) n later passes
-        ]))
+        | inl strict ↦ (let also = less x strict in rw (strict, also) (
+          omega (arith, rest.0),
+          λ is n there passes. elim ((Contains-front x xs n).0 there) [
+            | inl same ↦ subst (λ (m : ℕ). q m ≡ true) same strict
+            | inr later ↦ rest.1 (omega arith) n later passes
+          ],
+        ))
         | inr fails ↦ elim (cases_Bool (p x)) [
           | inl passes ↦ rw (fails, passes) (omega (arith, rest.0), λ is. absurd (omega (arith, rest.0)))
-          | inr also ↦ rw (fails, also) (rest.0, λ is n there passes. elim ((Contains-front x xs n).0 there) [
-            | inl same ↦ absurd (both_ways (p x) also (ap p same ∙ passes))
-            | inr later ↦ rest.1 is n later passes
-          ])
+          | inr also ↦ rw (fails, also) (
+            rest.0,
+            λ is n there passes. elim ((Contains-front x xs n).0 there) [
+              | inl same ↦ absurd (both_ways (p x) also (ap p same ∙ passes))
+              | inr later ↦ rest.1 is n later passes
+            ],
+          )
         ]
       ]
 
@@ -107,7 +112,7 @@ relation_narrows old fresh rel within =
           let firsts = is_in-same (words_of fresh rel.first) (words_of old rel.first) within.first.1 (first.1 (omega (arith, first.0, second.0))) in
           let seconds = is_in-same (words_of fresh rel.second) (words_of old rel.second) within.second.1 (second.1 (omega (arith, first.0, second.0))) in
           filter_agree (is_left (words_of fresh rel.first) (words_of fresh rel.second)) (is_left (words_of old rel.first) (words_of old rel.second))
-            (λ t. ap (λ (b : Bool). b && is_in (words_of fresh rel.second) t.1) (firsts t.0) ∙ ap (λ (b : Bool). is_in (words_of old rel.first) t.0 && b) (seconds t.1)) (pairs_of rel.lines),
+          (λ t. ap (λ (b : Bool). b && is_in (words_of fresh rel.second) t.1) (firsts t.0) ∙ ap (λ (b : Bool). is_in (words_of old rel.first) t.0 && b) (seconds t.1)) (pairs_of rel.lines),
     )
 
 -- where no mask of a relation has a number more, the measure is no more

@@ -1,18 +1,17 @@
 -- What a step leaves that narrows one mask of a relation.
-use Rattle.std.proofs.Common.{◌≡◌, ◌≢◌, ◌↔◌, ℕ, zero, suc, ◌+◌, ◌*◌, ◌<◌, ◌≤◌, ◌&&◌, List, [], ◌∷◌, length, filter, Bool, true, false, inl, inr, Option, Some, None, is_some, refl, sym, ap, subst, ◌∙◌, arith}
+use Rattle.std.proofs.Common.{◌≡◌, ◌≢◌, ◌↔◌, ℕ, ◌≤◌, List, [], ◌∷◌, length, filter, Bool, true, inl, inr, Option, Some, None, is_some, refl, ap, ◌∙◌, arith}
 use Rattle.std.specs.Prelude.{slice_get, Contains, IsTrue}
 use Rattle.std.specs.List.{find}
 use Rattle.std.specs.Option.{option_map}
 use Rattle.std.proofs.lemmas.Bool.{both_ways, cases_Bool}
-use Rattle.std.proofs.lemmas.Option.{same_Some, slice_get_within}
 use Rattle.row_lanes.specs.Words.{Has}
-use Rattle.mask_pool.specs.Mask.{Stretch, DoNotOverlap}
-use Rattle.mask_pool.specs.Region.{Region, IsLive, words_of}
+use Rattle.mask_pool.specs.Mask.{DoNotOverlap}
+use Rattle.mask_pool.specs.Region.{Region, words_of}
 use Rattle.cube_slices.specs.Lines.{pairs_of}
 use Rattle.pattern_rel.specs.Left.{Relation, pairs_left, is_in, is_left, own_of}
 use Rattle.pattern_rel.specs.Bounds.{as_pair, is_wanted}
 use Rattle.pattern_rel.specs.declared.bound.Pair.{Pair}
-use Rattle.pattern_rel.specs.Folds.{IsUsable, CanFold, Keeps}
+use Rattle.pattern_rel.specs.Folds.{IsUsable, Keeps}
 use Rattle.pattern_rel.specs.declared.side.Side.{Side}
 use Rattle.pattern_rel.specs.declared.side.Side.TheVariants.{First, Second}
 use Rattle.pattern_rel.proofs.PairLaws.{Contains-front, none_there, is_in-has}
@@ -77,13 +76,13 @@ module _ (p : Prepared) (fits : FitsTogether p) (i : ℕ) (e : Entry) (at : slic
   others_stay First q keeps j differ =
       let stay = own_stay First q keeps in
       lists_by p q j (λ d there. left_same p.pool q d.rel
-        (first_stays p q (first_place p i) (first_place p i) stay j d there (omega arith) (omega arith))
-        (second_stays p q (first_place p i) (first_place p i) stay j d there (omega arith) (omega arith)))
+      (first_stays p q (first_place p i) (first_place p i) stay j d there (omega arith) (omega arith))
+      (second_stays p q (first_place p i) (first_place p i) stay j d there (omega arith) (omega arith)))
   others_stay Second q keeps j differ =
       let stay = own_stay Second q keeps in
       lists_by p q j (λ d there. left_same p.pool q d.rel
-        (first_stays p q (second_place p i) (second_place p i) stay j d there (omega arith) (omega arith))
-        (second_stays p q (second_place p i) (second_place p i) stay j d there (omega arith) (omega arith)))
+      (first_stays p q (second_place p i) (second_place p i) stay j d there (omega arith) (omega arith))
+      (second_stays p q (second_place p i) (second_place p i) stay j d there (omega arith) (omega arith)))
 
   -- the measure is no more
   pub own_narrows : (side : Side) (q : Region) → Keeps p.pool q (own_of side e.rel) → ((n : ℕ) → Has (words_of q (own_of side e.rel)) n → Has (words_of p.pool (own_of side e.rel)) n) → Narrows p (record p { pool = q })

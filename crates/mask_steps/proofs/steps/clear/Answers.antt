@@ -1,8 +1,4 @@
-use Rattle.std.proofs.Common.{◌≡◌, ℕ, sym, ◌∙◌, subst, refl, arith}
-use Rattle.mask_pool.specs.Mask.{Stretch}
-use Rattle.mask_pool.specs.Region.{words_of}
-use Rattle.row_lanes.specs.Words.{Has}
-use Rattle.pattern_rel.specs.Folds.{IsUsable, Keeps}
+use Rattle.std.proofs.Common.{◌∙◌, arith}
 use Rattle.pattern_rel.specs.declared.side.Side.TheVariants.{First}
 use Rattle.mask_steps.proofs.HeldLaws.{left_at}
 use Rattle.mask_steps.proofs.OwnLaws.{own_usable, others_stay, own_layout, own_narrows, none_left}

@@ -1,4 +1,4 @@
-use Rattle.std.proofs.Common.{◌≡◌, ◌↔◌, ℕ, subst, sym, List, Bool, Contains, IsTrue}
+use Rattle.std.proofs.Common.{◌↔◌, ℕ, subst, sym, List, Contains, IsTrue}
 use Rattle.pattern_rel.specs.declared.side.Side.TheVariants.{First, Second}
 use Rattle.mask_steps.proofs.HeldLaws.{left_at}
 use Rattle.mask_steps.proofs.OwnLaws.{own_usable, some_left}
