@@ -1,3 +1,4 @@
+pub mod Examples
 pub mod KindLaws
 pub mod PlaceLaws
 pub mod HeldLaws
