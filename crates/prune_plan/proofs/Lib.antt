@@ -1,1 +1,3 @@
-mod PassesSame
+pub mod Layouts
+pub mod PassesSame
+pub mod Reductions

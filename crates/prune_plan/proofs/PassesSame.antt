@@ -46,30 +46,34 @@ module _ {M I : Type 0} (agree other : M → I → M → I → Type 0) (Some : M
 
 -- ---- all members
 
-module _ {M I : Type 0} (agree : M → I → M → I → Type 0) where
+each_pair : {M : Type 0} (pairs : List (M × M)) → OfEach (λ m n. Unit {0} × Unit {0}) pairs
+each_pair [] = tt
+each_pair (pair ∷ pairs) = ((tt, tt), each_pair pairs)
+
+module _ {M I : Type 0} where
   -- they hold the same
   abbrev pub HoldSame : (M → I → Type 0) → (M → I → Type 0) → Type 0
   HoldSame held held' = (m : M) (i : I) → held m i ↔ held' m i
 
-  each_pair : (pairs : List (M × M)) → OfEach (λ m n. Unit {0} × Unit {0}) pairs
-  each_pair [] = tt
-  each_pair (pair ∷ pairs) = ((tt, tt), each_pair pairs)
+  -- and agree in the same way
+  abbrev pub AgreeSame : (M → I → M → I → Type 0) → (M → I → M → I → Type 0) → Type 0
+  AgreeSame agree other = (m n : M) (i j : I) → agree m i n j ↔ other m i n j
 
-  reduce-all : (by member : M) (held held' : M → I → Type 0) → HoldSame held held' → HoldSame (reduce agree by member held) (reduce agree by member held')
-  reduce-all by member held held' same m i =
-      reduce-same agree agree (λ m. Unit {0}) (λ m i. Unit {0}) (λ m n i j a b c d. (λ h. h, λ h. h)) by member tt held held' (λ m i some h. tt) (λ m i some. same m i) m i tt
+  reduce-all : (agree other : M → I → M → I → Type 0) → AgreeSame agree other → (by member : M) (held held' : M → I → Type 0) → HoldSame held held' → HoldSame (reduce agree by member held) (reduce other by member held')
+  reduce-all agree other alike by member held held' same m i =
+      reduce-same agree other (λ m. Unit {0}) (λ m i. Unit {0}) (λ m n i j a b c d. alike m n i j) by member tt held held' (λ m i some h. tt) (λ m i some. same m i) m i tt
 
-  passes-all : (pairs : List (M × M)) (held held' : M → I → Type 0) → HoldSame held held' → HoldSame (two_passes agree pairs held) (two_passes agree pairs held')
-  passes-all pairs held held' same m i =
-      two_passes-same agree agree (λ m. Unit {0}) (λ m i. Unit {0}) (λ m n i j a b c d. (λ h. h, λ h. h)) pairs (each_pair pairs) held held' (λ m i some h. tt) (λ m i some. same m i) m i tt
+  passes-all : (agree other : M → I → M → I → Type 0) → AgreeSame agree other → (pairs : List (M × M)) (held held' : M → I → Type 0) → HoldSame held held' → HoldSame (two_passes agree pairs held) (two_passes other pairs held')
+  passes-all agree other alike pairs held held' same m i =
+      two_passes-same agree other (λ m. Unit {0}) (λ m i. Unit {0}) (λ m n i j a b c d. alike m n i j) pairs (each_pair pairs) held held' (λ m i some h. tt) (λ m i some. same m i) m i tt
 
   -- a reduction, the passes over the other pairs, and the reduction back are the passes over all
-  pub passes_by_steps : (m n : M) (pairs : List (M × M)) (start cut inner end : M → I → Type 0) →
-      HoldSame cut (reduce agree m n start) → HoldSame inner (two_passes agree pairs cut) → HoldSame end (reduce agree n m inner) → HoldSame end (two_passes agree ((m, n) ∷ pairs) start)
-  passes_by_steps m n pairs start cut inner end first rest back k i =
+  pub passes_by_steps : (agree later last : M → I → M → I → Type 0) → AgreeSame later agree → AgreeSame last agree → (m n : M) (pairs : List (M × M)) (start cut inner end : M → I → Type 0) →
+      HoldSame cut (reduce agree m n start) → HoldSame inner (two_passes later pairs cut) → HoldSame end (reduce last n m inner) → HoldSame end (two_passes agree ((m, n) ∷ pairs) start)
+  passes_by_steps agree later last alike alike' m n pairs start cut inner end first rest back k i =
       let between : HoldSame inner (two_passes agree pairs (reduce agree m n start)) = λ k i. (
-          λ h. (passes-all pairs cut (reduce agree m n start) first k i).0 ((rest k i).0 h),
-          λ h. (rest k i).1 ((passes-all pairs cut (reduce agree m n start) first k i).1 h),
+          λ h. (passes-all later agree alike pairs cut (reduce agree m n start) first k i).0 ((rest k i).0 h),
+          λ h. (rest k i).1 ((passes-all later agree alike pairs cut (reduce agree m n start) first k i).1 h),
         ) in
-      let last = reduce-all n m inner (two_passes agree pairs (reduce agree m n start)) between k i in
-      (λ h. last.0 ((back k i).0 h), λ h. (back k i).1 (last.1 h))
+      let whole = reduce-all last agree alike' n m inner (two_passes agree pairs (reduce agree m n start)) between k i in
+      (λ h. whole.0 ((back k i).0 h), λ h. (back k i).1 (whole.1 h))

@@ -7,7 +7,7 @@
 
 mod lives;
 mod passes;
-mod prune;
+mod rounds;
 mod starts;
 
-pub use prune::prune;
+pub use rounds::prune;
