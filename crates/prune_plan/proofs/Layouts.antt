@@ -1,6 +1,7 @@
 -- What stays while only the pool changes, and what two steps do one after the other.
-use Rattle.std.proofs.Common.{◌≡◌, ◌↔◌, ◌≤◌, ◌-◌, inl, inr, true, ℕ, ◌&&◌, List, length, filter, Bool, Option, Some, None, Contains, refl, sym, ◌∙◌, ap, subst, arith}
+use Rattle.std.proofs.Common.{◌≡◌, ◌≢◌, ◌↔◌, ◌≤◌, ◌-◌, inl, inr, true, ℕ, ◌&&◌, List, length, filter, Bool, Option, Some, None, Contains, refl, sym, ◌∙◌, ap, subst, arith}
 use Rattle.std.specs.Prelude.{slice_get}
+use Rattle.std.proofs.lemmas.Bool.{cases_eq}
 use Rattle.join_graph.specs.declared.steps.Step.TheVariants.{Pattern, Variable}
 use Rattle.join_graph.specs.Members.{Member}
 use Rattle.mask_pool.specs.Region.{Region}
@@ -44,6 +45,13 @@ tree_fits tree old new layout fits = record {
 pub in_order_same : (old new : Prepared) → ((i : ℕ) → lists_left new i ≡ lists_left old i) → AreInOrder old new
 in_order_same old new same i = (λ pair. true, same i ∙ sym (filter_true (lists_left old i)))
 
+-- one list by a test, and the others as they were
+pub in_order_one : (old new : Prepared) (i : ℕ) → ((test : ℕ × ℕ → Bool) × (lists_left new i ≡ filter test (lists_left old i))) → ((j : ℕ) → j ≢ i → lists_left new j ≡ lists_left old j) → AreInOrder old new
+in_order_one old new i one others j = elim (cases_eq j i) as (λ _. (test : ℕ × ℕ → Bool) × (lists_left new j ≡ filter test (lists_left old j))) [
+  | inl is ↦ subst (λ j. (test : ℕ × ℕ → Bool) × (lists_left new j ≡ filter test (lists_left old j))) (sym is) one
+  | inr apart ↦ (λ pair. true, others j apart ∙ sym (filter_true (lists_left old j)))
+]
+
 pub in_order_then : (a b c : Prepared) → AreInOrder a b → AreInOrder b c → AreInOrder a c
 in_order_then a b c first second i =
     let p = (first i).0 in
@@ -52,6 +60,9 @@ in_order_then a b c first second i =
 
 pub left_before : (old new : Prepared) → AreInOrder old new → (i : ℕ) (pair : ℕ × ℕ) → Contains (lists_left new i) pair → Contains (lists_left old i) pair
 left_before old new in_order i pair at = ((Contains-filter (in_order i).0 (lists_left old i) pair).0 (subst (λ l. Contains l pair) (in_order i).1 at)).0
+
+pub lists_same : (old new : Prepared) → ((i : ℕ) → lists_left new i ≡ lists_left old i) → (i : ℕ) (pair : ℕ × ℕ) → Contains (lists_left new i) pair ↔ Contains (lists_left old i) pair
+lists_same old new same i pair = (λ at. subst (λ l. Contains l pair) (same i) at, λ at. subst (λ l. Contains l pair) (sym (same i)) at)
 
 -- ---- the measure
 

@@ -1,3 +1,4 @@
 pub mod Layouts
+pub mod NodeLaws
 pub mod PassesSame
 pub mod Reductions
