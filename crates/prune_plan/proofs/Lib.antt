@@ -1,4 +1,6 @@
+pub mod Emptying
 pub mod Layouts
 pub mod NodeLaws
 pub mod PassesSame
 pub mod Reductions
+pub mod SceneLaws

@@ -22,7 +22,7 @@ use Rattle.prune_plan.proofs.Layouts.{gives_stay, left_before}
 use Rattle.prune_plan.proofs.PassesSame.{two_passes-same}
 
 -- of each pair, by the list
-each_listed : (P : Member → Member → Type 0) (pairs : List (Member × Member)) → ((m n : Member) → Contains pairs (m, n) → P m n) → OfEach P pairs
+pub each_listed : (P : Member → Member → Type 0) (pairs : List (Member × Member)) → ((m n : Member) → Contains pairs (m, n) → P m n) → OfEach P pairs
 each_listed P [] has = tt
 each_listed P ((m, n) ∷ pairs) has = (has m n (Contains-head (m, n) pairs), each_listed P pairs (λ a b at. has a b (Contains-tail (m, n) pairs (a, b) at)))
 
