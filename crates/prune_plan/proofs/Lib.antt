@@ -1,6 +1,9 @@
 pub mod Emptying
 pub mod Layouts
+pub mod AliveNodes
 pub mod NodeLaws
 pub mod PassesSame
+pub mod Places
 pub mod Reductions
 pub mod SceneLaws
+pub mod Starting

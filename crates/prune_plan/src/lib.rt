@@ -6,6 +6,7 @@
 #![tactic(auto)]
 
 mod lives;
+mod nodes;
 mod passes;
 mod rounds;
 mod starts;

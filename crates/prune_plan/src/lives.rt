@@ -1,8 +1,6 @@
 //! Whether a node is alive, and what becomes of one that is not.
 
-ghost use Rattle.std.specs.Prelude.{◌≡◌, ◌<◌, ◌≤◌, ◌↔◌, All, ℕ, [], length, slice_get, Some, IsTrue};
-ghost use Rattle.node_plans.specs.Placed.{IsPlaced};
-ghost use Rattle.pattern_tree.specs.Tree.{TreeNode};
+ghost use Rattle.std.specs.Prelude.{◌≡◌, ◌<◌, ◌↔◌, ℕ, [], length, IsTrue};
 ghost use Rattle.tree_relations.specs.Fits.{FitsTree};
 ghost use Rattle.tree_relations.specs.Readings.{lists_left};
 ghost use Rattle.mask_steps.specs.Held.{HasLayoutOf};
@@ -10,20 +8,10 @@ ghost use Rattle.mask_steps.specs.Measure.{Narrows};
 ghost use Rattle.prune_plan.specs.Members.{AreInOrder};
 ghost use Rattle.prune_plan.specs.Nodes.{HasPlace, IsAlive, IsNodeFilled};
 
+use crate::nodes::{parent_of, patterns_of};
 use mask_steps::{clear, is_left};
-use pattern_tree::{PatRefs, Tree};
+use pattern_tree::Tree;
 use tree_relations::Prepared;
-
-/// The triple patterns of a node, within the limits of a query.
-fn placed<'a, 'q>(tree: &'a Tree<'q>, node: u8) -> PatRefs<'a, 'q>
-    requires { node < length tree.now }
-    ensures patterns { (at : TreeNode) → slice_get tree.now node ≡ Some at → result ≡ at.patterns }
-    ensures placed { All IsPlaced result }
-{
-    // This is called for its contract: it is the tree of a pattern that keeps the limits.
-    let _nodes = tree.nodes();
-    tree.patterns(node)
-}
 
 /// Whether a pair is left of each triple pattern of a node.
 fn is_filled(prepared: &Prepared<'_>, tree: &Tree<'_>, node: u8) -> bool
@@ -31,7 +19,7 @@ fn is_filled(prepared: &Prepared<'_>, tree: &Tree<'_>, node: u8) -> bool
     requires fits { FitsTree tree.now prepared.now }
     ensures { IsTrue result ↔ IsNodeFilled tree.now prepared.now node }
 {
-    let patterns = placed(tree, node);
+    let patterns = patterns_of(tree, node);
     for i in 0..patterns.len() {
         if !is_left(prepared, patterns.get(i).number - 1) {
             return false;
@@ -49,7 +37,7 @@ pub(crate) fn is_alive(prepared: &Prepared<'_>, tree: &Tree<'_>, node: u8) -> bo
     if !is_filled(prepared, tree, node) {
         return false;
     }
-    match tree.parent(node) {
+    match parent_of(tree, node) {
         Some(parent) => is_alive(prepared, tree, parent),
         None => true,
     }
@@ -65,7 +53,7 @@ pub(crate) fn empty_node(prepared: &mut Prepared<'_>, tree: &Tree<'_>, node: u8)
     ensures narrows { Narrows prepared.old prepared.new }
     ensures layout { HasLayoutOf prepared.old prepared.new }
 {
-    let patterns = placed(tree, node);
+    let patterns = patterns_of(tree, node);
     for i in 0..patterns.len() {
         clear(prepared, patterns.get(i).number - 1);
     }

@@ -12,6 +12,7 @@ ghost use Rattle.mask_steps.specs.Measure.{mask_bits};
 ghost use Rattle.prune_plan.specs.Accepted.{HasNoCrossPlace};
 ghost use Rattle.prune_plan.specs.Nodes.{IsFirstValue};
 
+use crate::nodes::parent_of;
 use alg_model::Var;
 use mask_steps::{VarKinds, gather};
 use node_plans::node_sets;
@@ -30,7 +31,7 @@ pub(crate) fn first_values(prepared: &mut Prepared<'_>, tree: &Tree<'_>, node: u
     ensures layout { HasLayoutOf prepared.old prepared.new }
 {
     let mut kinds = VarKinds::new();
-    if let Some(parent) = tree.parent(node) {
+    if let Some(parent) = parent_of(tree, node) {
         gather_parent(prepared, &mut kinds, tree, parent, tree.vars(node));
     }
     kinds
