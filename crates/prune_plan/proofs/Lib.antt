@@ -1,6 +1,8 @@
-pub mod Emptying
-pub mod Layouts
 pub mod AliveNodes
+pub mod Clearing
+pub mod Emptying
+pub mod GatherLaws
+pub mod Layouts
 pub mod NodeLaws
 pub mod PassesSame
 pub mod Places
