@@ -64,3 +64,10 @@ module _ (tree : List TreeNode) (parent : ℕ) (old : Prepared) (start : List (O
       )),
     leaves_then old mid new before.1 same,
   )
+
+  -- all of them, where no triple pattern of the node has a later place
+  pub taken_all : (n : ℕ) (new : Prepared) (kinds : List (Option PlaceKind)) → ((i v : ℕ) → IsEdge tree parent i v → i < n) → AreTaken n new kinds → (v x : ℕ) → bit_at wanted v ≡ 1 →
+      HasValue new kinds v x ↔ (HasValue old start v x × ((i : ℕ) → IsEdge tree parent i v → OccursAt old i v x))
+  taken_all n new kinds inside are v x w =
+      let both = are.0 v x w in
+      (λ h. (let all = both.0 h in (all.0, λ i edge. all.1 i (inside i v edge) edge)), λ h. both.1 (h.0, λ i low edge. h.1 i edge))

@@ -116,7 +116,7 @@ agree_stays old new layout (Variable v) (Variable w) i j = (λ h. h, λ h. h)
 
 -- ---- sides
 
-var_stays : (old new : Prepared) → HasLayoutOf old new → (i v : ℕ) → IsVarAt old i v → IsVarAt new i v
+pub var_stays : (old new : Prepared) → HasLayoutOf old new → (i v : ℕ) → IsVarAt old i v → IsVarAt new i v
 var_stays old new layout i v is = record {
   entry = is.entry;
   at = ap (λ entries. slice_get entries i) (entries_stay old new layout) ∙ is.at;

@@ -1,6 +1,7 @@
 pub mod AliveNodes
 pub mod Clearing
 pub mod Emptying
+pub mod FirstValues
 pub mod GatherLaws
 pub mod Layouts
 pub mod NodeLaws
@@ -8,4 +9,5 @@ pub mod PassesSame
 pub mod Places
 pub mod Reductions
 pub mod SceneLaws
+pub mod Sets
 pub mod Starting

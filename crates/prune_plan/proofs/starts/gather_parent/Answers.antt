@@ -1,5 +1,35 @@
-use Rattle.std.proofs.Common.{refl}
+use Rattle.std.proofs.Common.{◌≡◌, ◌↔◌, ◌<◌, ℕ, length, get_or, refl, sym, ◌∙◌, subst, arith}
+use Rattle.join_graph.specs.Members.{PatternHas}
+use Rattle.node_plans.specs.NodePlan.{AreSetsOf}
+use Rattle.prune_plan.proofs.GatherLaws.{taken_step, taken_all}
+use Rattle.prune_plan.proofs.Layouts.{var_stays}
+use Rattle.prune_plan.proofs.Places.{edge_is_var}
+use Rattle.prune_plan.proofs.Sets.{both_bits, own_is, inside_sets}
 use Rattle.prune_plan.proofs.starts.gather_parent.Goals as goal
 
+pub gather_each-requires-clause-there : goal.gather_each-requires-clause-there
+gather_each-requires-clause-there c = λ v low own.
+    let tree = c.args.tree.now in
+    let sets = c.as_slice-sets.result.now in
+    let are = subst (AreSetsOf tree c.args.parent) (sym c.as_slice-sets.ensures) c.node_sets-sets.ensures.sets in
+    let old = c.args.prepared.now in
+    let edge = (are c.loop-place.place v).0 (both_bits (get_or sets c.loop-place.place 0) c.args.wanted v own).0 in
+    var_stays old c.loop-place.prepared c.loop-place.invariant.1.1.1 c.loop-place.place v (edge_is_var tree old c.requires.fits c.requires.accepted c.args.parent c.loop-place.place v edge)
+
 pub loop-place-preserved : goal.loop-place-preserved
-loop-place-preserved c = ?
+loop-place-preserved c =
+    let tree = c.args.tree.now in
+    let sets = c.as_slice-sets.result.now in
+    let are = subst (AreSetsOf tree c.args.parent) (sym c.as_slice-sets.ensures) c.node_sets-sets.ensures.sets in
+    let limits = c.node_sets-sets.ensures.limits in
+    let n = c.loop-place.place in
+    ?
+
+pub returns-clause-values : goal.returns-clause-values
+returns-clause-values c = λ v x wanted.
+    let tree = c.args.tree.now in
+    let sets = c.as_slice-sets.result.now in
+    let are = subst (AreSetsOf tree c.args.parent) (sym c.as_slice-sets.ensures) c.node_sets-sets.ensures.sets in
+    let past : length sets ≡ c.loop-place.place = omega arith in
+    taken_all tree c.args.parent c.args.prepared.now c.args.kinds.now c.args.wanted c.loop-place.place c.loop-place.prepared c.loop-place.kinds
+    (λ i v edge. subst (λ n. i < n) past (inside_sets tree c.args.parent sets are i v edge)) c.loop-place.invariant v x wanted
