@@ -7,6 +7,7 @@ pub mod Layouts
 pub mod NodeLaws
 pub mod PassesSame
 pub mod Places
+pub mod Pruned
 pub mod Reductions
 pub mod SceneLaws
 pub mod Sets

@@ -1,4 +1,4 @@
-use Rattle.std.proofs.Common.{◌≡◌, ◌<◌, ◌≤◌, ◌-◌, ℕ, length, get_or, true, inl, inr, refl, sym, ap, subst, arith}
+use Rattle.std.proofs.Common.{◌≡◌, ◌<◌, ◌≤◌, ◌-◌, ℕ, length, get_or, true, inl, inr, refl, sym, ◌∙◌, ap, subst, arith}
 use Rattle.std.proofs.lemmas.Bool.{cases_eq}
 use Rattle.std.proofs.lemmas.Option.{get_or_from_slice_get}
 use Rattle.pruning_laws.specs.Shown.{entry_of}
@@ -19,7 +19,7 @@ is_left-requires-clause-there c =
 
 pub returns-then-not-is_left : goal.returns-then-not-is_left
 returns-then-not-is_left c = (
-  λ none. absurd none,
+  λ none. absurd (cc none),
   λ filled. (
       let tree = c.args.tree.now in
       let patterns = c.patterns_of-patterns.result in
@@ -28,7 +28,7 @@ returns-then-not-is_left c = (
       let stands = stands_there tree c.args.node patterns c.patterns_of-patterns.ensures.patterns c.requires.node i one (omega arith) in
       let found = filled (get_or patterns i one) stands in
       let here = subst (λ pattern. IsFilled (is_left_of c.args.prepared.now) (entry_of pattern)) (get_or_from_slice_get patterns i one one c.get.ensures) found in
-      ?
+      sym c.if-not-is_left.true ∙ c.is_left.ensures.1 here
       ),
 )
 
@@ -39,7 +39,7 @@ loop-i-preserved c = λ j d low.
     let i = c.loop-i.i in
     elim (cases_eq j i) as (λ _. IsFilled (is_left_of c.args.prepared.now) (entry_of (get_or patterns j d))) [
       | inl is ↦
-          let here : IsFilled (is_left_of c.args.prepared.now) (entry_of one) = c.is_left.ensures.0 ? in
+          let here : IsFilled (is_left_of c.args.prepared.now) (entry_of one) = c.is_left.ensures.0 c.if-not-is_left.false in
           subst (λ j. IsFilled (is_left_of c.args.prepared.now) (entry_of (get_or patterns j d))) (sym is)
           (subst (λ pattern. IsFilled (is_left_of c.args.prepared.now) (entry_of pattern)) (sym (get_or_from_slice_get patterns i one d c.get.ensures)) here)
       | inr apart ↦ c.loop-i.invariant j d (omega arith)
