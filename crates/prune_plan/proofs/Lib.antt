@@ -5,6 +5,8 @@ pub mod FirstValues
 pub mod GatherLaws
 pub mod Layouts
 pub mod NodeLaws
+pub mod NodeReduced
+pub mod PairScenes
 pub mod PassesSame
 pub mod Places
 pub mod Pruned

@@ -63,7 +63,7 @@ module _ {M I : Type 0} where
   reduce-all agree other alike by member held held' same m i =
       reduce-same agree other (λ m. Unit {0}) (λ m i. Unit {0}) (λ m n i j a b c d. alike m n i j) by member tt held held' (λ m i some h. tt) (λ m i some. same m i) m i tt
 
-  passes-all : (agree other : M → I → M → I → Type 0) → AgreeSame agree other → (pairs : List (M × M)) (held held' : M → I → Type 0) → HoldSame held held' → HoldSame (two_passes agree pairs held) (two_passes other pairs held')
+  pub passes-all : (agree other : M → I → M → I → Type 0) → AgreeSame agree other → (pairs : List (M × M)) (held held' : M → I → Type 0) → HoldSame held held' → HoldSame (two_passes agree pairs held) (two_passes other pairs held')
   passes-all agree other alike pairs held held' same m i =
       two_passes-same agree other (λ m. Unit {0}) (λ m i. Unit {0}) (λ m n i j a b c d. alike m n i j) pairs (each_pair pairs) held held' (λ m i some h. tt) (λ m i some. same m i) m i tt
 

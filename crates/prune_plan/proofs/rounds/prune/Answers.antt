@@ -1,0 +1,25 @@
+use Rattle.std.proofs.Common.{◌≡◌, refl, sym, ◌∙◌, arith}
+-- GREATEST
+use Rattle.prune_plan.proofs.Layouts.{tree_fits, layout_then}
+use Rattle.prune_plan.proofs.Pruned.{reached_first, reached_more}
+use Rattle.prune_plan.proofs.rounds.prune.Goals as goal
+
+pub loop-before-init : goal.loop-before-init
+loop-before-init c = (c.bits-before.ensures, reached_first c.args.tree.now c.args.prepared.now c.requires.fits)
+
+pub take_round-requires-clause-fits : goal.take_round-requires-clause-fits
+take_round-requires-clause-fits c = tree_fits c.args.tree.now c.args.prepared.now c.loop-before.prepared c.loop-before.invariant.1.layout c.requires.fits
+
+pub loop-before-preserved : goal.loop-before-preserved
+loop-before-preserved c = (
+  c.bits-after.ensures,
+  reached_more c.args.tree.now c.args.prepared.now c.loop-before.prepared c.take_round.new.prepared c.loop-before.invariant.1 c.take_round.ensures.round c.take_round.ensures.in_order c.take_round.ensures.layout,
+)
+
+pub returns-then-after-before-clause-fits : goal.returns-then-after-before-clause-fits
+returns-then-after-before-clause-fits c =
+    let old = c.args.prepared.now in
+    tree_fits c.args.tree.now old c.take_round.new.prepared (layout_then old c.loop-before.prepared c.take_round.new.prepared c.loop-before.invariant.1.layout c.take_round.ensures.layout) c.requires.fits
+
+pub returns-then-after-before-clause-left : goal.returns-then-after-before-clause-left
+returns-then-after-before-clause-left c = ?
