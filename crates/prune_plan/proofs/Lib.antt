@@ -3,6 +3,7 @@ pub mod Clearing
 pub mod Emptying
 pub mod FirstValues
 pub mod GatherLaws
+pub mod Greatest
 pub mod Layouts
 pub mod NodeLaws
 pub mod NodeReduced

@@ -43,7 +43,7 @@ stands_somewhere pattern v at = elim (Contains-append_cases (place_vars pattern.
 ]
 
 -- no variable stands at a predicate place and at a node place
-may_meet : (pattern : TriplePat) (v : ℕ) → (IsVar pattern.predicate v → ¬ (IsVar pattern.subject v ⊎ IsVar pattern.object v)) →
+pub may_meet : (pattern : TriplePat) (v : ℕ) → (IsVar pattern.predicate v → ¬ (IsVar pattern.subject v ⊎ IsVar pattern.object v)) →
     (a b : PlaceKind) → IsVar (place_at a pattern) v → IsVar (place_at b pattern) v → MayMeet a b
 may_meet pattern v apart Predicate Predicate first second = (λ e. e, λ e. e)
 may_meet pattern v apart Predicate Subject first second = absurd (apart first (inl second))

@@ -1,5 +1,6 @@
 use Rattle.std.proofs.Common.{◌≡◌, refl, sym, ◌∙◌, arith}
--- GREATEST
+use Rattle.prune_plan.proofs.Greatest.{pruned_left}
+use Rattle.mask_steps.specs.Measure.{mask_bits}
 use Rattle.prune_plan.proofs.Layouts.{tree_fits, layout_then}
 use Rattle.prune_plan.proofs.Pruned.{reached_first, reached_more}
 use Rattle.prune_plan.proofs.rounds.prune.Goals as goal
@@ -22,4 +23,7 @@ returns-then-after-before-clause-fits c =
     tree_fits c.args.tree.now old c.take_round.new.prepared (layout_then old c.loop-before.prepared c.take_round.new.prepared c.loop-before.invariant.1.layout c.take_round.ensures.layout) c.requires.fits
 
 pub returns-then-after-before-clause-left : goal.returns-then-after-before-clause-left
-returns-then-after-before-clause-left c = ?
+returns-then-after-before-clause-left c =
+    let same : mask_bits c.take_round.new.prepared ≡ mask_bits c.loop-before.prepared = sym c.bits-after.ensures ∙ c.if-after-before.true ∙ c.loop-before.invariant.0 in
+    pruned_left c.args.tree.now c.args.prepared.now c.loop-before.prepared c.take_round.new.prepared c.requires.fits c.requires.accepted c.loop-before.invariant.1 c.take_round.ensures.round c.take_round.ensures.in_order
+    c.take_round.ensures.layout (c.take_round.ensures.narrows.same same)
