@@ -1,14 +1,13 @@
 -- What is left of relations and what variables hold, once a step has written a mask.
-use Rattle.std.proofs.Common.{◌≡◌, ◌≢◌, ◌↔◌, ◌⊎◌, ℕ, ◌+◌, ◌-◌, ◌<◌, ◌≤◌, inl, inr, List, [], ◌∷◌, length, filter, Bool, true, Option, Some, None, refl, sym, ap, subst, ◌∙◌, arith}
+use Rattle.std.proofs.Common.{◌≡◌, ◌≢◌, ◌↔◌, ◌⊎◌, ℕ, ◌+◌, ◌<◌, inl, inr, List, length, Option, Some, None, refl, sym, ap, subst, ◌∙◌, arith}
 use Rattle.std.specs.Prelude.{slice_get, Contains}
-use Rattle.std.proofs.lemmas.Option.{none-some, same_Some, slice_get_within}
+use Rattle.std.proofs.lemmas.Option.{same_Some}
 use Rattle.row_lanes.specs.Words.{Has}
 use Rattle.mask_pool.specs.Mask.{Stretch}
 use Rattle.mask_pool.specs.Region.{Region, words_of}
 use Rattle.alg_model.specs.declared.var.Var.{Var}
 use Rattle.cube_slices.specs.Lines.{pairs_of}
 use Rattle.pattern_rel.specs.Left.{Relation, pairs_left, left_in, is_left, IsAtSide, number_at}
-use Rattle.pattern_rel.specs.Folds.{IsBelow}
 use Rattle.pattern_rel.specs.declared.side.Side.{Side}
 use Rattle.pattern_rel.specs.declared.side.Side.TheVariants.{First, Second}
 use Rattle.pattern_rel.proofs.PairLaws.{Contains-filter}
@@ -20,10 +19,9 @@ use Rattle.tree_relations.specs.declared.prepared.Prepared.{Prepared}
 use Rattle.tree_relations.specs.Prepared.{count_of, FitsPlace, MeetsItself, FitsEntry, FitsTogether}
 use Rattle.tree_relations.specs.Fits.{IsSide}
 use Rattle.tree_relations.specs.Readings.{value_of, SideGives, EntryGives, left_of, lists_left}
-use Rattle.mask_steps.specs.Held.{kind_in, HasNumber, HasValueOf, HasValue, GivesAt, OccursAt, MayMeet, IsVarAt}
-use Rattle.mask_steps.specs.steps.Cuts.{cut_of}
-use Rattle.mask_steps.specs.steps.Sides.{place_on, IsTaken}
-use Rattle.mask_steps.proofs.KindLaws.{count_moved, value_moved, values_meet, values_same, shared_same}
+use Rattle.mask_steps.specs.Held.{kind_in, HasNumber, HasValueOf, HasValue, MayMeet, IsVarAt}
+use Rattle.mask_steps.specs.steps.Sides.{IsTaken}
+use Rattle.mask_steps.proofs.KindLaws.{shared_same}
 use Rattle.mask_steps.proofs.PlaceLaws.{StayBut, first_place, second_place, first_at, second_at, work_at, entry_at}
 
 -- ---- lists
@@ -58,9 +56,9 @@ module _ (p : Prepared) (q : Region) (k s : ℕ) (stay : StayBut p q k s) where
   pub number_stays : (v n : ℕ) → (v + 1 < length p.work → (v ≢ k) × (v ≢ s)) → HasNumber (record p { pool = q }) v n ↔ HasNumber p v n
   number_stays v n apart = (
     λ h. (let differ = apart h.within in
-      record { within = h.within; mask = h.mask; at = h.at; has = subst (λ (words : List ℕ). Has words n) (stay v h.mask (work_at p v h.mask h.at) differ.0 differ.1) h.has }),
+        record { within = h.within; mask = h.mask; at = h.at; has = subst (λ (words : List ℕ). Has words n) (stay v h.mask (work_at p v h.mask h.at) differ.0 differ.1) h.has }),
     λ h. (let differ = apart h.within in
-      record { within = h.within; mask = h.mask; at = h.at; has = subst (λ (words : List ℕ). Has words n) (sym (stay v h.mask (work_at p v h.mask h.at) differ.0 differ.1)) h.has }),
+        record { within = h.within; mask = h.mask; at = h.at; has = subst (λ (words : List ℕ). Has words n) (sym (stay v h.mask (work_at p v h.mask h.at) differ.0 differ.1)) h.has }),
   )
 
 -- the values held are those of the numbers, whatever the pool

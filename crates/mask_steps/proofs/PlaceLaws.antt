@@ -1,19 +1,17 @@
 -- Where the masks stand in the list of all masks, and which of them a step leaves as they were.
-use Rattle.std.proofs.Common.{◌≡◌, ◌≢◌, ℕ, zero, suc, ◌+◌, ◌-◌, ◌<◌, ◌≤◌, ◌⊎◌, inl, inr, List, [], ◌∷◌, ◌++◌, length, get_or, Option, Some, None, refl, sym, ap, subst, ◌∙◌, arith}
+use Rattle.std.proofs.Common.{◌≡◌, ◌≢◌, ℕ, zero, suc, ◌+◌, ◌<◌, ◌≤◌, inl, inr, List, [], ◌∷◌, ◌++◌, length, get_or, Option, Some, None, refl, sym, ap, subst, ◌∙◌, arith}
 use Rattle.std.specs.Prelude.{All, AllPairs, slice_get}
 use Rattle.std.specs.List.{flat_map}
 use Rattle.std.proofs.lemmas.Bool.{cases_lt}
-use Rattle.std.proofs.lemmas.Option.{none-some, same_Some, slice_get_within, get_or_from_slice_get}
-use Rattle.std.proofs.lemmas.List.Elements.{All-get_or, All-from_get_or, All-weaker}
+use Rattle.std.proofs.lemmas.Option.{none-some, slice_get_within, get_or_from_slice_get}
+use Rattle.std.proofs.lemmas.List.Elements.{All-get_or, All-weaker}
 use Rattle.mask_pool.specs.Mask.{Stretch, words_for, DoNotOverlap}
 use Rattle.mask_pool.specs.Region.{Region, IsLive, words_of}
 use Rattle.pattern_rel.specs.Folds.{IsUsable, CanFold, Keeps}
-use Rattle.tree_relations.specs.declared.prepared.PlaceKind.TheVariants.{Subject, Object, Predicate}
 use Rattle.tree_relations.specs.declared.prepared.SidePlace.{SidePlace}
 use Rattle.pattern_rel.specs.declared.side.Side.{Side}
 use Rattle.pattern_rel.specs.declared.side.Side.TheVariants.{First, Second}
-use Rattle.pattern_rel.specs.Left.{IsAtSide, own_of}
-use Rattle.cube_slices.specs.Lines.{pairs_of}
+use Rattle.pattern_rel.specs.Left.{own_of}
 use Rattle.tree_relations.specs.declared.prepared.Entry.{Entry}
 use Rattle.tree_relations.specs.declared.prepared.Prepared.{Prepared}
 use Rattle.tree_relations.specs.Prepared.{FitsPlace, MeetsItself, FitsEntry, masks_of, FitsTogether, work_bits}

@@ -1,7 +1,5 @@
-use Rattle.std.proofs.Common.{◌≡◌, ◌-◌, sym, ◌∙◌, subst, ap, refl, arith, Option, Some, ℕ, List}
+use Rattle.std.proofs.Common.{◌-◌, sym, ◌∙◌, refl, arith}
 use Rattle.std.proofs.lemmas.Option.{slice_get_within}
-use Rattle.row_lanes.specs.Words.{Has}
-use Rattle.mask_pool.specs.Region.{words_of}
 use Rattle.pattern_rel.proofs.MaskLaws.{IsUsable-kept, words_kept}
 use Rattle.mask_steps.proofs.PlaceLaws.{StayBut, work_at, usable_at, apart_at, can_fold, room_at, stay_one, stay_two, together_moved}
 use Rattle.mask_steps.proofs.HeldLaws.{taken_at, has_mask, all_lists_stay, values_stay}
@@ -34,7 +32,7 @@ meet-requires-clause-apart c =
     let taken = taken_at c.args.prepared.now c.args.i c.args.var.0 c.get-entry.result.now c.side_of-side.result.0 c.side_of-side.result.1 c.requires.fits c.requires.there c.get-entry.ensures c.side_of-side.ensures in
     let mask = has_mask c.args.prepared.now c.get-entry.result.now c.args.var.0 c.side_of-side.result.0 c.side_of-side.result.1 taken in
     apart_at c.args.prepared.now c.requires.fits c.args.var.0 (c.len.result - 1) c.get-into.result c.get-spare.result
-      (work_at c.args.prepared.now c.args.var.0 c.get-into.result c.get-into.ensures) (work_at c.args.prepared.now (c.len.result - 1) c.get-spare.result c.get-spare.ensures) (omega arith)
+    (work_at c.args.prepared.now c.args.var.0 c.get-into.result c.get-into.ensures) (work_at c.args.prepared.now (c.len.result - 1) c.get-spare.result c.get-spare.ensures) (omega arith)
 
 pub returns-in-None-clause-values : goal.returns-in-None-clause-values
 returns-in-None-clause-values c = values_first c.args.prepared.now c.args.i c.args.var.0 c.get-entry.result.now c.side_of-side.result.0 c.side_of-side.result.1 c.get-entry.ensures
@@ -72,11 +70,11 @@ returns-in-Some-clause-values c =
     let taken = taken_at c.args.prepared.now c.args.i c.args.var.0 c.get-entry.result.now c.side_of-side.result.0 c.side_of-side.result.1 c.requires.fits c.requires.there c.get-entry.ensures c.side_of-side.ensures in
     let mask = has_mask c.args.prepared.now c.get-entry.result.now c.args.var.0 c.side_of-side.result.0 c.side_of-side.result.1 taken in
     let apart = apart_at c.args.prepared.now c.requires.fits (c.len.result - 1) c.args.var.0 c.get-spare.result c.get-into.result
-      (work_at c.args.prepared.now (c.len.result - 1) c.get-spare.result c.get-spare.ensures) (work_at c.args.prepared.now c.args.var.0 c.get-into.result c.get-into.ensures) (omega arith) in
+    (work_at c.args.prepared.now (c.len.result - 1) c.get-spare.result c.get-spare.ensures) (work_at c.args.prepared.now c.args.var.0 c.get-into.result c.get-into.ensures) (omega arith) in
     let same = words_kept c.args.prepared.now.pool c.fold-in-Some.new.pool c.get-spare.result c.get-into.result c.fold-in-Some.ensures.keeps usable apart in
     values_later c.args.prepared.now c.args.i c.args.var.0 c.get-entry.result.now c.side_of-side.result.0 c.side_of-side.result.1 c.get-entry.ensures taken
-      c.get-into.result c.get-into.ensures c.meet.new.pool c.args.kinds.now c.in-Some.held (sym c.kind.ensures ∙ c.in-Some.is)
-      (λ n. met_folded _ _ _ _ _ _ n same c.cut_between.ensures (c.fold-in-Some.ensures.folded n) (c.meet.ensures.both n))
+    c.get-into.result c.get-into.ensures c.meet.new.pool c.args.kinds.now c.in-Some.held (sym c.kind.ensures ∙ c.in-Some.is)
+    (λ n. met_folded _ _ _ _ _ _ n same c.cut_between.ensures (c.fold-in-Some.ensures.folded n) (c.meet.ensures.both n))
 
 pub returns-in-Some-clause-others : goal.returns-in-Some-clause-others
 returns-in-Some-clause-others c = λ v x differ.

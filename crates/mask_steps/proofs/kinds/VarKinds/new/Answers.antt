@@ -1,5 +1,4 @@
-use Rattle.std.proofs.Common.{◌≡◌, ℕ, zero, suc, None, Option, List, [], ◌∷◌, replicate, refl}
-use Rattle.tree_relations.specs.declared.prepared.PlaceKind.{PlaceKind}
+use Rattle.std.proofs.Common.{◌≡◌, ℕ, zero, suc, None, replicate, refl}
 use Rattle.mask_steps.specs.Held.{kind_in}
 use Rattle.mask_steps.proofs.kinds.VarKinds.new.Goals as goal
 
