@@ -1,6 +1,6 @@
 -- When a node is alive, by its own triple patterns and its parent.
-use Rattle.std.proofs.Common.{◌≡◌, ◌↔◌, ℕ, ◌<◌, List, length, Some, None, sym, subst}
-use Rattle.pattern_tree.specs.Standing.{StandsAt, IsWithin, itself, below}
+use Rattle.std.proofs.Common.{ℕ, List, subst}
+use Rattle.pattern_tree.specs.Standing.{IsWithin, itself, below}
 use Rattle.pattern_tree.specs.Tree.{TreeNode}
 use Rattle.tree_relations.specs.declared.prepared.Prepared.{Prepared}
 use Rattle.prune_plan.specs.Nodes.{IsParent, IsNodeFilled, IsAlive}

@@ -1,17 +1,16 @@
 -- Emptying a node that is not alive: what is left then is what the passes over the node leave. And rounds, node by node.
-use Rattle.std.proofs.Common.{◌≡◌, ◌≢◌, ◌↔◌, ◌⊎◌, inl, inr, ℕ, suc, ◌+◌, ◌<◌, List, [], length, Contains, refl, sym, subst, arith}
+use Rattle.std.proofs.Common.{◌≡◌, ◌↔◌, inl, inr, ℕ, suc, ◌+◌, ◌<◌, List, [], length, Contains, refl, sym, subst, arith}
 use Rattle.std.proofs.lemmas.Bool.{cases_eq}
 use Rattle.bm_term.proofs.Elements.{Contains-nil}
 use Rattle.join_graph.specs.declared.steps.Step.TheVariants.{Pattern, Variable}
 use Rattle.join_graph.specs.Members.{Member}
 use Rattle.node_plans.specs.NodePlan.{IsNodePair}
 use Rattle.node_plans.proofs.WholeTrees.{with_node, with_node-here, with_node-below, passes_more}
-use Rattle.pattern_tree.specs.Standing.{StandsAt}
 use Rattle.pattern_tree.specs.Tree.{TreeNode}
 use Rattle.pruning_laws.specs.Plans.{IsEdge}
-use Rattle.pruning_laws.specs.Scene.{Scene, IsAtOrAbove, Governs, node_of}
+use Rattle.pruning_laws.specs.Scene.{Scene, IsAtOrAbove, node_of}
 use Rattle.pruning_laws.specs.Shown.{entry_of}
-use Rattle.pruning_laws.specs.TreePasses.{Holding, IsFilled, emptied, node_passes, tree_passes}
+use Rattle.pruning_laws.specs.TreePasses.{Holding, emptied, node_passes, tree_passes}
 use Rattle.pruning_laws.proofs.ArcConsistent.{governs_from}
 use Rattle.pruning_laws.proofs.PassLaws.{OfEach}
 use Rattle.tree_relations.specs.declared.prepared.Prepared.{Prepared}
@@ -26,15 +25,15 @@ module _ (tree : List TreeNode) (old : Prepared) (scene : Scene ℕ (ℕ × ℕ)
   pub alive_stays : IsAlive tree mid k → IsLeft scene (emptied scene k ends) mid
   alive_stays alive i pair here = (
     λ at. (
-        (left i pair here).0 at,
-        λ is_here q governs. (
-            let m = node_of scene q in
-            let way = subst (λ k. IsAtOrAbove scene.parents m k) is_here governs.above in
-            let place = (is.stands q m).0 (governs.exists, refl) in
-            let found = alive m ((is.above m k low).0 way) place.0 place.1 in
-            (found.0, (left q found.0 governs.exists).0 (subst (λ q. Contains (lists_left mid q) found.0) place.2 found.1))
-            ),
-      ),
+      (left i pair here).0 at,
+      λ is_here q governs. (
+          let m = node_of scene q in
+          let way = subst (λ k. IsAtOrAbove scene.parents m k) is_here governs.above in
+          let place = (is.stands q m).0 (governs.exists, refl) in
+          let found = alive m ((is.above m k low).0 way) place.0 place.1 in
+          (found.0, (left q found.0 governs.exists).0 (subst (λ q. Contains (lists_left mid q) found.0) place.2 found.1))
+          ),
+    ),
     λ h. (left i pair here).1 h.0,
   )
 
@@ -50,9 +49,9 @@ module _ (tree : List TreeNode) (old : Prepared) (scene : Scene ℕ (ℕ × ℕ)
       IsLeft scene (emptied scene k ends) new
   dead_emptied new dead none others i pair here = elim (cases_eq (node_of scene i) k) as (λ _. Contains (lists_left new i) pair ↔ emptied scene k ends i pair) [
     | inl is_here ↦ (
-        λ at. absurd (Contains-nil pair (subst (λ l. Contains l pair) (none i ((is.stands i k).0 (here, is_here))) at)),
-        λ h. absurd (dead (filled_alive i pair is_here h)),
-      )
+      λ at. absurd (Contains-nil pair (subst (λ l. Contains l pair) (none i ((is.stands i k).0 (here, is_here))) at)),
+      λ h. absurd (dead (filled_alive i pair is_here h)),
+    )
     | inr apart ↦
         let same = others i (λ place. apart ((is.stands i k).1 place).1) in (
           λ at. ((left i pair here).0 (subst (λ l. Contains l pair) same at), λ is_here. absurd (apart is_here)),

@@ -1,7 +1,6 @@
 -- Steps that reduce variables by triple patterns, one after another.
-use Rattle.std.proofs.Common.{◌≡◌, ◌≢◌, ◌↔◌, ℕ, inl, inr, ◌+◌, ◌<◌, List, length, Option, Contains, refl, sym, ◌∙◌, ap, subst, arith}
+use Rattle.std.proofs.Common.{◌≡◌, ◌≢◌, ◌↔◌, ℕ, ◌+◌, ◌<◌, List, Option, Contains, sym, ◌∙◌, subst}
 use Rattle.std.specs.Int.{bit_at}
-use Rattle.std.proofs.lemmas.Bool.{cases_lt}
 use Rattle.pattern_tree.specs.Tree.{TreeNode}
 use Rattle.pruning_laws.specs.Plans.{IsEdge}
 use Rattle.tree_relations.specs.declared.prepared.PlaceKind.{PlaceKind}
@@ -36,11 +35,11 @@ module _ (old : Prepared) (start : List (Option PlaceKind)) (i vars : ℕ) where
       AreGathered (n + 1) new fresh
   gathered_step n mid new kinds fresh low wanted before here others same = (
     gathered_more (HasValue old start) (OccursAt old i) (λ v. (v < 64) × (bit_at vars v ≡ 1)) n (HasValue mid kinds) (HasValue new fresh) (low, wanted) before.0
-    (λ x. (
-        λ h. (let both = (here x).0 h in (both.0, (occurs_stays old mid before.1 i n x).0 both.1)),
-        λ h. (here x).1 (h.0, (occurs_stays old mid before.1 i n x).1 h.1),
-      ))
-    others,
+        (λ x. (
+          λ h. (let both = (here x).0 h in (both.0, (occurs_stays old mid before.1 i n x).0 both.1)),
+          λ h. (here x).1 (h.0, (occurs_stays old mid before.1 i n x).1 h.1),
+        ))
+        others,
     leaves_then old mid new before.1 same,
   )
 
@@ -58,10 +57,10 @@ module _ (tree : List TreeNode) (parent : ℕ) (old : Prepared) (start : List (O
       ((v x : ℕ) → HasValue new fresh v x ↔ (HasValue mid kinds v x × (own v → OccursAt mid n v x))) → LeavesLists mid new → AreTaken (n + 1) new fresh
   taken_step n mid new kinds fresh own is before here same = (
     taken_more (HasValue old start) (OccursAt old) (λ v. bit_at wanted v ≡ 1) (IsEdge tree parent) n (HasValue mid kinds) (HasValue new fresh) own is before.0
-    (λ v x. (
-        λ h. (let both = (here v x).0 h in (both.0, λ o. (occurs_stays old mid before.1 n v x).0 (both.1 o))),
-        λ h. (here v x).1 (h.0, λ o. (occurs_stays old mid before.1 n v x).1 (h.1 o)),
-      )),
+        (λ v x. (
+          λ h. (let both = (here v x).0 h in (both.0, λ o. (occurs_stays old mid before.1 n v x).0 (both.1 o))),
+          λ h. (here v x).1 (h.0, λ o. (occurs_stays old mid before.1 n v x).1 (h.1 o)),
+        )),
     leaves_then old mid new before.1 same,
   )
 

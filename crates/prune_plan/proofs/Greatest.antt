@@ -1,5 +1,5 @@
 -- What is left once a round drops nothing stands for the greatest consistent family.
-use Rattle.std.proofs.Common.{◌≡◌, ◌↔◌, ◌⊎◌, inl, inr, Bool, ℕ, zero, suc, ◌<◌, ◌≤◌, ◌==◌, List, [], ◌∷◌, length, map, Contains, refl, sym, ◌∙◌, ap, subst, arith}
+use Rattle.std.proofs.Common.{◌≡◌, inl, inr, Bool, ℕ, zero, suc, ◌<◌, ◌==◌, List, [], length, map, Contains, refl, sym, ap, subst, arith}
 use Rattle.std.proofs.lemmas.Bool.{cases_lt}
 use Rattle.alg_model.specs.declared.pattern.TriplePat.{TriplePat}
 use Rattle.alg_model.specs.Eval.{Interpretation}
@@ -16,7 +16,7 @@ use Rattle.pruning_laws.specs.Scene.{Scene, StandsIn, node_of}
 use Rattle.pruning_laws.specs.SceneOf.{scene_of}
 use Rattle.pruning_laws.specs.Shown.{entry_of, shown, AreLeftOf}
 use Rattle.pruning_laws.specs.TreePasses.{Holding, tree_passes}
-use Rattle.pruning_laws.proofs.ArcConsistent.{listed, LiesWithin, IsArcConsistent, IsGreatest, GivesOne, Fits}
+use Rattle.pruning_laws.proofs.ArcConsistent.{listed, LiesWithin, IsGreatest, GivesOne, Fits}
 use Rattle.pruning_laws.proofs.Bridge.{greatest_shown}
 use Rattle.pruning_laws.proofs.NodePlans.{plan_shown}
 use Rattle.pruning_laws.proofs.RoundLaws.{greatest_same}
@@ -115,9 +115,9 @@ module _ (tree : List TreeNode) (connected : IsConnected tree) (stands_for : ℕ
         let here = scene_stays tree scene old last before.layout before.in_order is in
         let passed = (round.2 scene here i pair there.0).0 there.1 in
         let swap : AreSameIn scene (is_left_of last) (listed left) = λ j t low. (
-            λ at. within-cut places (lists_left new) j t low (subst (λ l. Contains l t) (sym (same j)) at),
-            λ at. subst (λ l. Contains l t) (same j) (cut-within places (lists_left new) j t at).1,
-          ) in
+          λ at. within-cut places (lists_left new) j t low (subst (λ l. Contains l t) (sym (same j)) at),
+          λ at. subst (λ l. Contains l t) (same j) (cut-within places (lists_left new) j t at).1,
+        ) in
         subst (λ n. tree_passes scene round.0 n (listed left) i pair) (sym is.nodes) ((tree_same tree last scene here round.0 (length tree) round.1 (is_left_of last) (listed left) swap i pair there.0).0 passed)
 
     greatest : IsGreatest scene (listed whole) (listed left)

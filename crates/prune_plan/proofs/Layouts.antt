@@ -1,5 +1,5 @@
 -- What stays while only the pool changes, and what two steps do one after the other.
-use Rattle.std.proofs.Common.{◌≡◌, ◌≢◌, ◌↔◌, ◌≤◌, ◌-◌, inl, inr, true, ℕ, ◌&&◌, List, length, filter, Bool, Option, Some, None, Contains, refl, sym, ◌∙◌, ap, subst, arith}
+use Rattle.std.proofs.Common.{◌≡◌, ◌≢◌, ◌↔◌, ◌-◌, inl, inr, true, ℕ, ◌&&◌, List, filter, Bool, Option, Some, None, Contains, refl, sym, ◌∙◌, ap, subst, arith}
 use Rattle.std.specs.Prelude.{slice_get}
 use Rattle.std.proofs.lemmas.Bool.{cases_eq}
 use Rattle.join_graph.specs.declared.steps.Step.TheVariants.{Pattern, Variable}
@@ -18,7 +18,7 @@ use Rattle.tree_relations.specs.Fits.{FitsTree}
 use Rattle.tree_relations.specs.Readings.{value_of, SideGives, EntryGives, lists_left}
 use Rattle.mask_steps.specs.Held.{GivesAt, IsVarAt, HasLayoutOf}
 use Rattle.mask_steps.specs.Measure.{mask_bits, Narrows}
-use Rattle.prune_plan.specs.Members.{agrees_by, agrees_in, AreSides, AreInOrder}
+use Rattle.prune_plan.specs.Members.{agrees_in, AreSides, AreInOrder}
 
 -- ---- one step after another
 

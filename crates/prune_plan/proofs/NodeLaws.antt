@@ -1,23 +1,20 @@
 -- What passes over the pairs of a node leave of relations is what they leave of the scene.
-use Rattle.std.proofs.Common.{◌≡◌, ◌↔◌, ◌⊎◌, inl, inr, ℕ, zero, suc, ◌<◌, List, [], ◌∷◌, length, Option, Contains, refl, sym, ◌∙◌, ap, subst, arith}
-use Rattle.std.proofs.lemmas.Bool.{cases_eq}
+use Rattle.std.proofs.Common.{◌≡◌, ◌↔◌, ℕ, zero, suc, ◌<◌, List, [], ◌∷◌, length, Contains, refl, sym, ◌∙◌, ap, subst, arith}
 use Rattle.bm_term.proofs.Elements.{Contains-head, Contains-tail}
 use Rattle.join_graph.specs.declared.steps.Step.TheVariants.{Pattern, Variable}
 use Rattle.join_graph.specs.Members.{Member}
 use Rattle.node_plans.specs.NodePlan.{IsNodePair}
-use Rattle.pattern_tree.specs.Standing.{StandsAt}
 use Rattle.pattern_tree.specs.Tree.{TreeNode}
 use Rattle.pruning_laws.specs.Passes.{two_passes}
 use Rattle.pruning_laws.specs.Plans.{IsEdge}
-use Rattle.pruning_laws.specs.Scene.{Scene, Has, Gives, StandsIn, Governs, node_of, parent_in}
-use Rattle.pruning_laws.specs.TreePasses.{Holding, IsFilled, Item, Triple, Value, agrees, holding, first_values, at_end, node_passes}
+use Rattle.pruning_laws.specs.Scene.{Scene, StandsIn, parent_in}
+use Rattle.pruning_laws.specs.TreePasses.{Item, Triple, Value, agrees, holding, first_values, at_end}
 use Rattle.pruning_laws.proofs.ArcConsistent.{HasHere}
 use Rattle.pruning_laws.proofs.PassLaws.{OfEach}
 use Rattle.tree_relations.specs.declared.prepared.Prepared.{Prepared}
-use Rattle.tree_relations.specs.Readings.{lists_left}
-use Rattle.mask_steps.specs.Held.{GivesAt, HasLayoutOf}
+use Rattle.mask_steps.specs.Held.{HasLayoutOf}
 use Rattle.prune_plan.specs.Members.{is_left_of, agrees_in, AreInOrder}
-use Rattle.prune_plan.specs.Nodes.{IsParent, IsSceneOf, IsLeft, IsFirstValue}
+use Rattle.prune_plan.specs.Nodes.{IsParent, IsSceneOf, IsFirstValue}
 use Rattle.prune_plan.proofs.Layouts.{gives_stay, left_before}
 use Rattle.prune_plan.proofs.PassesSame.{two_passes-same}
 

@@ -1,21 +1,20 @@
 -- The scene of a pattern whose items are the pairs of relations.
-use Rattle.std.proofs.Common.{◌≡◌, ◌↔◌, ◌⊎◌, inl, inr, Bool, ℕ, ◌+◌, ◌<◌, nat_lt, List, [], length, true, Option, Some, None, All, Contains, get_or, refl, sym, ◌∙◌, ap, subst, arith, lt-ltb}
+use Rattle.std.proofs.Common.{◌≡◌, ◌↔◌, ◌⊎◌, inl, inr, Bool, ℕ, ◌<◌, List, Option, Some, None, All, Contains, refl, sym, ◌∙◌, ap, subst, arith}
 use Rattle.std.specs.Prelude.{slice_get}
 use Rattle.std.proofs.lemmas.Bool.Decides.{nat_tests}
 use Rattle.std.proofs.lemmas.Option.{get_or_from_slice_get, slice_get_within}
 use Rattle.alg_model.specs.declared.pattern.TriplePat.{TriplePat}
 use Rattle.alg_model.specs.declared.var.Var.{Var}
-use Rattle.alg_model.specs.Eval.{Interpretation}
 use Rattle.alg_model.specs.Pattern.{IsVar}
 use Rattle.cube_slices.specs.Lines.{pairs_of}
 use Rattle.mask_pool.specs.Region.{words_of}
 use Rattle.node_plans.proofs.Limits.{node_there}
-use Rattle.pattern_rel.specs.Left.{is_left, pairs_left}
+use Rattle.pattern_rel.specs.Left.{is_left}
 use Rattle.pattern_rel.proofs.PairLaws.{Contains-filter}
 use Rattle.pattern_tree.specs.Consistent.{TakesValue}
 use Rattle.pattern_tree.specs.Standing.{StandsAt}
 use Rattle.pattern_tree.specs.Tree.{TreeNode}
-use Rattle.pruning_laws.specs.Scene.{Scene, Gives, StandsIn, node_of}
+use Rattle.pruning_laws.specs.Scene.{Scene, StandsIn, node_of}
 use Rattle.pruning_laws.specs.Shown.{entry_of}
 use Rattle.pruning_laws.proofs.Bridge.{up, down}
 use Rattle.pruning_laws.proofs.NodePlans.{from_edge, to_edge}
@@ -26,7 +25,7 @@ use Rattle.tree_relations.specs.declared.prepared.SidePlace.{SidePlace}
 use Rattle.tree_relations.specs.declared.prepared.Entry.{Entry}
 use Rattle.tree_relations.specs.declared.prepared.Prepared.{Prepared}
 use Rattle.tree_relations.specs.Prepared.{MeetsItself, FitsEntry}
-use Rattle.tree_relations.specs.Fits.{place_at, IsSide, IsEntryAt, FitsTree}
+use Rattle.tree_relations.specs.Fits.{place_at, IsSide, FitsTree}
 use Rattle.tree_relations.specs.Readings.{NumberTriple, as_numbers, part_at, value_of, SideGives, EntryGives, left_of, lists_left, ReadsSide, IsReading}
 use Rattle.mask_steps.specs.Held.{MayMeet, GivesAt}
 use Rattle.prune_plan.specs.Accepted.{HasNoCrossPlace}

@@ -1,5 +1,5 @@
 -- Passes leave the same where the members of their pairs hold the same, and agree in the same way on what they hold.
-use Rattle.std.proofs.Common.{◌≡◌, ◌↔◌, List, [], ◌∷◌}
+use Rattle.std.proofs.Common.{◌↔◌, List, [], ◌∷◌}
 use Rattle.pruning_laws.specs.Passes.{reduce, first_pass, second_pass, two_passes}
 use Rattle.pruning_laws.proofs.PassLaws.{OfEach, first_pass-within, second_pass-within}
 
@@ -15,17 +15,17 @@ module _ {M I : Type 0} (agree other : M → I → M → I → Type 0) (Some : M
   pub reduce-same : (by member : M) → Some by → (held held' : M → I → Type 0) → ArePart held → AreSame held held' → AreSame (reduce agree by member held) (reduce other by member held')
   reduce-same by member is held held' part same_held m i some = (
     λ h. (
-        (same_held m i some).0 h.0,
-        λ e. (let p = h.1 e in (p.0, (same_held by p.0 is).0 p.1, (same by m p.0 i is some (part by p.0 is p.1) (part m i some h.0)).0 p.2)),
-      ),
+      (same_held m i some).0 h.0,
+      λ e. (let p = h.1 e in (p.0, (same_held by p.0 is).0 p.1, (same by m p.0 i is some (part by p.0 is p.1) (part m i some h.0)).0 p.2)),
+    ),
     λ h. (
-        (same_held m i some).1 h.0,
-        λ e. (
-            let p = h.1 e in
-            let there = (same_held by p.0 is).1 p.1 in
-            (p.0, there, (same by m p.0 i is some (part by p.0 is there) (part m i some ((same_held m i some).1 h.0))).1 p.2)
-            ),
-      ),
+      (same_held m i some).1 h.0,
+      λ e. (
+          let p = h.1 e in
+          let there = (same_held by p.0 is).1 p.1 in
+          (p.0, there, (same by m p.0 i is some (part by p.0 is there) (part m i some ((same_held m i some).1 h.0))).1 p.2)
+          ),
+    ),
   )
 
   pub first_pass-same : (pairs : List (M × M)) → OfEach (λ m n. Some m × Some n) pairs → (held held' : M → I → Type 0) → ArePart held → AreSame held held' → AreSame (first_pass agree pairs held) (first_pass other pairs held')
@@ -72,8 +72,8 @@ module _ {M I : Type 0} where
       HoldSame cut (reduce agree m n start) → HoldSame inner (two_passes later pairs cut) → HoldSame end (reduce last n m inner) → HoldSame end (two_passes agree ((m, n) ∷ pairs) start)
   passes_by_steps agree later last alike alike' m n pairs start cut inner end first rest back k i =
       let between : HoldSame inner (two_passes agree pairs (reduce agree m n start)) = λ k i. (
-          λ h. (passes-all later agree alike pairs cut (reduce agree m n start) first k i).0 ((rest k i).0 h),
-          λ h. (rest k i).1 ((passes-all later agree alike pairs cut (reduce agree m n start) first k i).1 h),
-        ) in
+        λ h. (passes-all later agree alike pairs cut (reduce agree m n start) first k i).0 ((rest k i).0 h),
+        λ h. (rest k i).1 ((passes-all later agree alike pairs cut (reduce agree m n start) first k i).1 h),
+      ) in
       let whole = reduce-all last agree alike' n m inner (two_passes agree pairs (reduce agree m n start)) between k i in
       (λ h. whole.0 ((back k i).0 h), λ h. (back k i).1 (whole.1 h))

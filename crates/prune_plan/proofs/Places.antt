@@ -13,7 +13,6 @@ use Rattle.alg_model.specs.Pattern.{IsVar, place_vars, triple_vars}
 use Rattle.bm_term.proofs.Elements.{Contains-nil, Contains-single}
 use Rattle.node_plans.proofs.Limits.{node_there}
 use Rattle.pattern_tree.specs.PatternTree.{IsPatternTree}
-use Rattle.pattern_tree.specs.Standing.{StandsAt, IsWithin, itself, below}
 use Rattle.pattern_tree.specs.Tree.{TreeNode, root_patterns, nodes_below, tree_of}
 use Rattle.pattern_tree.proofs.Nodes.{below-HasParent}
 use Rattle.pruning_laws.specs.Plans.{IsEdge}
@@ -21,7 +20,7 @@ use Rattle.pruning_laws.specs.Shown.{entry_of}
 use Rattle.tree_relations.specs.declared.prepared.PlaceKind.{PlaceKind}
 use Rattle.tree_relations.specs.declared.prepared.PlaceKind.TheVariants.{Subject, Object, Predicate}
 use Rattle.tree_relations.specs.declared.prepared.Prepared.{Prepared}
-use Rattle.tree_relations.specs.Fits.{place_at, IsSide, IsEntryAt, FitsTree}
+use Rattle.tree_relations.specs.Fits.{place_at, FitsTree}
 use Rattle.mask_steps.specs.Held.{MayMeet, IsVarAt}
 use Rattle.prune_plan.specs.Accepted.{HasNoCrossPlace}
 use Rattle.prune_plan.specs.Nodes.{HasPlace, IsParent}

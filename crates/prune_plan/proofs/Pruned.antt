@@ -1,23 +1,21 @@
 -- Rounds, node by node and one after another.
-use Rattle.std.proofs.Common.{◌≡◌, ◌↔◌, ◌⊎◌, inl, inr, ℕ, zero, suc, ◌+◌, ◌<◌, ◌≤◌, List, [], ◌∷◌, length, Contains, refl, sym, ◌∙◌, ap, subst, arith}
-use Rattle.join_graph.specs.declared.steps.Step.TheVariants.{Pattern, Variable}
+use Rattle.std.proofs.Common.{◌≡◌, ℕ, suc, ◌+◌, ◌<◌, ◌≤◌, List, [], length, refl, subst, arith}
 use Rattle.join_graph.specs.Members.{Member}
 use Rattle.node_plans.proofs.WholeTrees.{with_node}
 use Rattle.pattern_tree.specs.Tree.{TreeNode}
 use Rattle.pruning_laws.specs.Plans.{IsPlanOf}
 use Rattle.pruning_laws.specs.Scene.{Scene}
-use Rattle.pruning_laws.specs.TreePasses.{Triple, at_end, node_passes, tree_passes}
+use Rattle.pruning_laws.specs.TreePasses.{tree_passes}
 use Rattle.pruning_laws.proofs.ArcConsistent.{listed, LiesWithin, IsArcConsistent, Fits}
 use Rattle.pruning_laws.proofs.TreeRounds.{IsPlan, round_keeps}
 use Rattle.tree_relations.specs.declared.prepared.Prepared.{Prepared}
 use Rattle.tree_relations.specs.Fits.{FitsTree}
-use Rattle.tree_relations.specs.Readings.{lists_left}
 use Rattle.mask_steps.specs.Held.{HasLayoutOf}
-use Rattle.mask_steps.specs.Measure.{mask_bits, Narrows}
+use Rattle.mask_steps.specs.Measure.{Narrows}
 use Rattle.prune_plan.specs.Members.{is_left_of, AreInOrder}
 use Rattle.prune_plan.specs.Nodes.{IsSceneOf, IsLeft, ArePairsOf, IsNodePruned, IsRound}
 use Rattle.prune_plan.proofs.Emptying.{pairs_more, round_more}
-use Rattle.prune_plan.proofs.Layouts.{layout_then, in_order_same, in_order_then, narrows_same, narrows_then, left_before}
+use Rattle.prune_plan.proofs.Layouts.{layout_then, in_order_same, in_order_then, narrows_same, narrows_then}
 use Rattle.prune_plan.proofs.NodeLaws.{scene_stays}
 
 -- ---- the nodes of a round

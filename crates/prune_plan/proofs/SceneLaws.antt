@@ -1,9 +1,9 @@
 -- Passes over a scene look at its own triple patterns alone, so they leave the same of families that are the same there.
-use Rattle.std.proofs.Common.{◌≡◌, ◌↔◌, ℕ, zero, suc, ◌<◌, List, [], ◌∷◌, length, refl, sym, subst}
+use Rattle.std.proofs.Common.{◌↔◌, ℕ, zero, suc, ◌<◌, List, length}
 use Rattle.join_graph.specs.declared.steps.Step.TheVariants.{Pattern, Variable}
 use Rattle.join_graph.specs.Members.{Member}
-use Rattle.pruning_laws.specs.Scene.{Scene, Governs, node_of}
-use Rattle.pruning_laws.specs.TreePasses.{Holding, IsFilled, Item, Triple, Value, agrees, holding, first_values, at_end, node_passes}
+use Rattle.pruning_laws.specs.Scene.{Scene}
+use Rattle.pruning_laws.specs.TreePasses.{Holding, Item, Triple, Value, agrees, holding, first_values, at_end, node_passes}
 use Rattle.pruning_laws.proofs.PassLaws.{OfEach}
 use Rattle.prune_plan.proofs.PassesSame.{two_passes-same}
 

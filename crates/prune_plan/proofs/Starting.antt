@@ -1,5 +1,5 @@
 -- How variables come to hold the values that occur in each of some triple patterns, one triple pattern after another.
-use Rattle.std.proofs.Common.{◌≡◌, ◌≢◌, ◌↔◌, ℕ, inl, inr, ◌+◌, ◌<◌, sym, subst, arith}
+use Rattle.std.proofs.Common.{◌≢◌, ◌↔◌, ℕ, inl, inr, ◌+◌, ◌<◌, sym, subst, arith}
 use Rattle.std.proofs.lemmas.Bool.{cases_eq}
 
 -- ---- the variables of one triple pattern, up to a number
@@ -16,21 +16,24 @@ module _ (first occurs : ℕ → ℕ → Type 0) (wanted : ℕ → Type 0) where
       ((v x : ℕ) → v ≢ n → next v x ↔ values v x) → HasGathered (n + 1) next
   gathered_more n values next is_wanted before here others v x = elim (cases_eq v n) as (λ _. next v x ↔ (first v x × (v < n + 1 → wanted v → occurs v x))) [
     | inl is ↦ subst (λ v. next v x ↔ (first v x × (v < n + 1 → wanted v → occurs v x))) (sym is) (
-        λ h. (let both = (here x).0 h in (((before n x).0 both.0).0, λ low w. both.1)),
-        λ h. (here x).1 ((before n x).1 (h.0, λ low w. absurd (omega (arith, low))), h.1 (omega arith) is_wanted),
-      )
+      λ h. (let both = (here x).0 h in (((before n x).0 both.0).0, λ low w. both.1)),
+      λ h. (here x).1 ((before n x).1 (h.0, λ low w. absurd (omega (arith, low))), h.1 (omega arith) is_wanted),
+    )
     | inr apart ↦ (
-        λ h. (let old = (before v x).0 ((others v x apart).0 h) in (old.0, λ low w. old.1 (omega (arith, low, apart)) w)),
-        λ h. (others v x apart).1 ((before v x).1 (h.0, λ low w. h.1 (omega (arith, low)) w)),
-      )
+      λ h. (let old = (before v x).0 ((others v x apart).0 h) in (old.0, λ low w. old.1 (omega (arith, low, apart)) w)),
+      λ h. (others v x apart).1 ((before v x).1 (h.0, λ low w. h.1 (omega (arith, low)) w)),
+    )
   ]
 
   pub gathered_skip : (n : ℕ) (values : ℕ → ℕ → Type 0) → (wanted n → ⊥) → HasGathered n values → HasGathered (n + 1) values
   gathered_skip n values none before v x = (
-    λ h. (let old = (before v x).0 h in (old.0, λ low w. elim (cases_eq v n) as (λ _. occurs v x) [
-      | inl is ↦ absurd (none (subst wanted is w))
-      | inr apart ↦ old.1 (omega (arith, low, apart)) w
-    ])),
+    λ h. (let old = (before v x).0 h in (
+      old.0,
+      λ low w. elim (cases_eq v n) as (λ _. occurs v x) [
+        | inl is ↦ absurd (none (subst wanted is w))
+        | inr apart ↦ old.1 (omega (arith, low, apart)) w
+      ],
+    )),
     λ h. (before v x).1 (h.0, λ low w. h.1 (omega (arith, low)) w),
   )
 
@@ -49,11 +52,13 @@ module _ (first : ℕ → ℕ → Type 0) (occurs : ℕ → ℕ → ℕ → Type
   taken_more n values next own same before here v x w = (
     λ h. (
         let both = (here v x).0 h in
-        let old = (before v x w).0 both.0 in
-        (old.0, λ i low e. elim (cases_eq i n) as (λ _. occurs i v x) [
-          | inl is ↦ subst (λ i. occurs i v x) (sym is) (both.1 ((same v w).1 (subst (λ i. edge i v) is e)))
-          | inr apart ↦ old.1 i (omega (arith, low, apart)) e
-        ])
+        let old = (before v x w).0 both.0 in (
+          old.0,
+          λ i low e. elim (cases_eq i n) as (λ _. occurs i v x) [
+            | inl is ↦ subst (λ i. occurs i v x) (sym is) (both.1 ((same v w).1 (subst (λ i. edge i v) is e)))
+            | inr apart ↦ old.1 i (omega (arith, low, apart)) e
+          ],
+        )
         ),
     λ h. (here v x).1 ((before v x w).1 (h.0, λ i low e. h.1 i (omega (arith, low)) e), λ o. h.1 n (omega arith) ((same v w).0 o)),
   )

@@ -6,7 +6,7 @@ use Rattle.join_graph.specs.Members.{Member}
 use Rattle.node_plans.specs.NodePlan.{IsByRemoval, IsForestNode, IsNodePair, IsNodePlan}
 use Rattle.pattern_tree.specs.Standing.{StandsAt, IsWithin}
 use Rattle.pattern_tree.specs.Tree.{TreeNode}
-use Rattle.pruning_laws.specs.Plans.{IsEdge, IsPlanOf}
+use Rattle.pruning_laws.specs.Plans.{IsEdge}
 use Rattle.pruning_laws.specs.Scene.{Scene, Has, Gives, IsAtOrAbove, StandsIn, parent_in}
 use Rattle.pruning_laws.specs.Shown.{entry_of}
 use Rattle.pruning_laws.specs.TreePasses.{Holding, Triple, IsFilled, at_end, node_passes, tree_passes}

@@ -1,4 +1,4 @@
-use Rattle.std.proofs.Common.{◌≡◌, ◌<◌, ℕ, Some, None, refl, sym, ◌∙◌, arith}
+use Rattle.std.proofs.Common.{refl, sym, ◌∙◌, arith}
 use Rattle.prune_plan.proofs.AliveNodes.{alive_below, alive_root, alive_above, alive_filled}
 use Rattle.prune_plan.proofs.lives.+is_alive.Goals as goal
 

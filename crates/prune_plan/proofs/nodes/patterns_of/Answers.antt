@@ -1,4 +1,4 @@
-use Rattle.std.proofs.Common.{length, get_or, Contains, subst}
+use Rattle.std.proofs.Common.{get_or, Contains, subst}
 use Rattle.std.proofs.lemmas.List.Elements.{Contains-get_or}
 use Rattle.node_plans.proofs.Limits.{placed_stands, node_there, patterns_there}
 use Rattle.prune_plan.proofs.nodes.patterns_of.Goals as goal

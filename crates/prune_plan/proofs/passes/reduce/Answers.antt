@@ -1,8 +1,6 @@
-use Rattle.std.proofs.Common.{◌≡◌, ◌↔◌, refl, sym, subst, Contains}
+use Rattle.std.proofs.Common.{◌↔◌, sym, subst, Contains}
 use Rattle.join_graph.specs.declared.steps.Step.TheVariants.{Pattern, Variable}
-use Rattle.join_graph.specs.Members.{Member}
 use Rattle.pruning_laws.specs.Passes.{reduce}
-use Rattle.tree_relations.specs.Readings.{lists_left}
 use Rattle.mask_steps.specs.Held.{HasValue, GivesAt}
 use Rattle.prune_plan.specs.Members.{is_left_of, held_by, agrees_in}
 use Rattle.prune_plan.proofs.Layouts.{in_order_same, in_order_one, lists_same}

@@ -1,4 +1,4 @@
-use Rattle.std.proofs.Common.{◌≡◌, refl, sym, ◌∙◌, arith}
+use Rattle.std.proofs.Common.{◌≡◌, sym, ◌∙◌}
 use Rattle.prune_plan.proofs.Greatest.{pruned_left}
 use Rattle.mask_steps.specs.Measure.{mask_bits}
 use Rattle.prune_plan.proofs.Layouts.{tree_fits, layout_then}

@@ -1,4 +1,4 @@
-use Rattle.std.proofs.Common.{◌≡◌, refl, sym, ◌∙◌}
+use Rattle.std.proofs.Common.{sym, ◌∙◌}
 use Rattle.join_graph.specs.declared.steps.Step.TheVariants.{Pattern}
 use Rattle.pruning_laws.specs.TreePasses.{Triple, at_end}
 use Rattle.prune_plan.specs.Members.{is_left_of}

@@ -1,4 +1,3 @@
-use Rattle.std.proofs.Common.{◌≡◌, ◌↔◌, Contains, refl, sym}
 use Rattle.prune_plan.proofs.Layouts.{in_order_same, in_order_then, tree_fits}
 use Rattle.prune_plan.proofs.NodeReduced.{pair_sides, node_reduced}
 use Rattle.prune_plan.proofs.rounds.reduce_node.Goals as goal

@@ -1,4 +1,4 @@
-use Rattle.std.proofs.Common.{◌≡◌, ◌<◌, length, refl, sym, subst, arith}
+use Rattle.std.proofs.Common.{◌≡◌, length, subst, arith}
 use Rattle.prune_plan.proofs.Layouts.{tree_fits}
 use Rattle.prune_plan.proofs.Pruned.{IsRoundBelow, round_none, round_node}
 use Rattle.prune_plan.proofs.rounds.take_round.Goals as goal

@@ -1,5 +1,4 @@
-use Rattle.std.proofs.Common.{◌≡◌, ◌↔◌, ◌<◌, ℕ, Some, None, refl, sym, ◌∙◌, ap, subst, arith}
-use Rattle.std.specs.Int.{bit_at}
+use Rattle.std.proofs.Common.{sym, ◌∙◌, arith}
 use Rattle.prune_plan.proofs.FirstValues.{all_values, first_of_parent, first_of_root, in_vars}
 use Rattle.prune_plan.proofs.starts.first_values.Goals as goal
 

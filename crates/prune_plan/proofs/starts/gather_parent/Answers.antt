@@ -1,4 +1,4 @@
-use Rattle.std.proofs.Common.{◌≡◌, ◌↔◌, ◌<◌, ℕ, length, get_or, bit_and, refl, sym, ◌∙◌, subst, arith}
+use Rattle.std.proofs.Common.{◌≡◌, ◌<◌, length, get_or, bit_and, sym, subst, arith}
 use Rattle.std.specs.Int.{bit_at}
 use Rattle.node_plans.specs.NodePlan.{AreSetsOf}
 use Rattle.prune_plan.proofs.GatherLaws.{taken_step, taken_all}
@@ -26,9 +26,9 @@ loop-place-preserved c =
     taken_step tree c.args.parent c.args.prepared.now c.args.kinds.now c.args.wanted n c.loop-place.prepared c.gather_each.new.prepared c.loop-place.kinds c.gather_each.new.kinds
     (λ v. (v < 64) × (bit_at (bit_and (get_or sets n 0) c.args.wanted) v ≡ 1)) (own_is tree c.args.parent sets are limits n c.args.wanted) c.loop-place.invariant
     (λ v x. (
-        λ h. (let both = (c.gather_each.ensures.values v x).0 h in (both.0, λ own. both.1 own.0 own.1)),
-        λ h. (c.gather_each.ensures.values v x).1 (h.0, λ low one. h.1 (low, one)),
-      ))
+      λ h. (let both = (c.gather_each.ensures.values v x).0 h in (both.0, λ own. both.1 own.0 own.1)),
+      λ h. (c.gather_each.ensures.values v x).1 (h.0, λ low one. h.1 (low, one)),
+    ))
     (c.gather_each.ensures.lists, (c.gather_each.ensures.bits, c.gather_each.ensures.layout))
 
 pub returns-clause-values : goal.returns-clause-values
