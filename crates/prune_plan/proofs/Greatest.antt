@@ -1,70 +1,33 @@
--- What is left once a round drops nothing stands for the greatest consistent family.
-use Rattle.std.proofs.Common.{◌≡◌, inl, inr, Bool, ℕ, zero, suc, ◌<◌, ◌==◌, List, [], length, map, Contains, refl, sym, ap, subst, arith}
-use Rattle.std.proofs.lemmas.Bool.{cases_lt}
-use Rattle.alg_model.specs.declared.pattern.TriplePat.{TriplePat}
-use Rattle.alg_model.specs.Eval.{Interpretation}
-use Rattle.alg_model.specs.Limits.{max_variables}
-use Rattle.bm_term.proofs.Elements.{Contains-nil}
+-- What is left once a round drops nothing is the greatest arc-consistent part of the lists of a scene; where each node is a
+-- forest, one round leaves it.
+use Rattle.std.proofs.Common.{◌≡◌, ◌↔◌, Bool, ℕ, zero, suc, ◌<◌, List, length, Contains, refl, sym, subst, arith}
 use Rattle.join_graph.specs.Members.{Member}
-use Rattle.pattern_tree.specs.Consistent.{IsGreatestConsistent}
-use Rattle.pattern_tree.specs.PatternTree.{IsPatternTree}
-use Rattle.pattern_tree.specs.Standing.{StandsAt, IsConnected}
-use Rattle.pattern_tree.specs.Tree.{TreeNode, tree_of}
-use Rattle.pattern_tree.proofs.Connected.{tree-connected}
+use Rattle.node_plans.specs.NodePlan.{IsForestNode}
+use Rattle.pattern_tree.specs.Standing.{IsConnected}
+use Rattle.pattern_tree.specs.Tree.{TreeNode}
 use Rattle.pruning_laws.specs.Plans.{IsPlanOf}
 use Rattle.pruning_laws.specs.Scene.{Scene, StandsIn, node_of}
-use Rattle.pruning_laws.specs.SceneOf.{scene_of}
-use Rattle.pruning_laws.specs.Shown.{entry_of, shown, AreLeftOf}
 use Rattle.pruning_laws.specs.TreePasses.{Holding, tree_passes}
 use Rattle.pruning_laws.proofs.ArcConsistent.{listed, LiesWithin, IsGreatest, GivesOne, Fits}
-use Rattle.pruning_laws.proofs.Bridge.{greatest_shown}
-use Rattle.pruning_laws.proofs.NodePlans.{plan_shown}
-use Rattle.pruning_laws.proofs.RoundLaws.{greatest_same}
-use Rattle.pruning_laws.proofs.SceneShows.{scene_shows}
+use Rattle.pruning_laws.proofs.NodePlans.{plan_shown, stripped_is_enough}
 use Rattle.pruning_laws.proofs.Shape.{tree_shown}
 use Rattle.pruning_laws.proofs.Shows.{Shows}
-use Rattle.pruning_laws.proofs.TreeRounds.{IsPlan, unchanged_is_consistent}
+use Rattle.pruning_laws.proofs.Settling.{IsEnough}
+use Rattle.pruning_laws.proofs.TreeRounds.{IsPlan, round_within, two_passes_are_enough, unchanged_is_consistent}
 use Rattle.tree_relations.specs.declared.prepared.Prepared.{Prepared}
 use Rattle.tree_relations.specs.Fits.{FitsTree}
-use Rattle.tree_relations.specs.Readings.{NumberTriple, as_numbers, lists_left, IsReading}
-use Rattle.mask_steps.specs.Held.{GivesAt, HasLayoutOf}
+use Rattle.tree_relations.specs.Readings.{NumberTriple, as_numbers, lists_left}
+use Rattle.mask_steps.specs.Held.{GivesAt}
 use Rattle.prune_plan.specs.Accepted.{HasNoCrossPlace}
-use Rattle.prune_plan.specs.Members.{is_left_of, AreInOrder}
+use Rattle.prune_plan.specs.Members.{is_left_of}
 use Rattle.prune_plan.specs.Nodes.{IsSceneOf, ArePairsOf, IsRound}
+use Rattle.prune_plan.proofs.CutLists.{cut, cut-low_only, cut-within, within-cut}
 use Rattle.prune_plan.proofs.Emptying.{all_low}
 use Rattle.prune_plan.proofs.Layouts.{left_before}
 use Rattle.prune_plan.proofs.NodeLaws.{scene_stays}
-use Rattle.prune_plan.proofs.PairScenes.{gives_one, scene_of_shows}
-use Rattle.prune_plan.proofs.Pruned.{IsReached, plan_of, reached_more}
+use Rattle.prune_plan.proofs.PairScenes.{gives_one}
+use Rattle.prune_plan.proofs.Pruned.{IsReached, plan_of}
 use Rattle.prune_plan.proofs.SceneLaws.{AreSameIn, node_same}
-
--- ---- the lists of the triple patterns of a scene
-
--- lists at places below n, and none at others
-cut : {X : Type 0} → ℕ → (ℕ → List X) → ℕ → List X
-cut n lists i = elim (cases_lt i n) [ inl low ↦ lists i | inr past ↦ [] ]
-
-cut-low : {X : Type 0} (n : ℕ) (lists : ℕ → List X) (i : ℕ) → i < n → cut n lists i ≡ lists i
-unfolding cut
-cut-low {X} n lists i low = elim (cases_lt i n) as (λ c. elim c as (λ _. List X) [ inl low ↦ lists i | inr past ↦ [] ] ≡ lists i) [
-  | inl there ↦ refl
-  | inr past ↦ absurd (omega arith)
-]
-
-cut-low_only : {X : Type 0} (n : ℕ) (lists : ℕ → List X) (i : ℕ) (t : X) → Contains (cut n lists i) t → i < n
-unfolding cut
-cut-low_only {X} n lists i t = elim (cases_lt i n) as (λ c. Contains (elim c as (λ _. List X) [ inl low ↦ lists i | inr past ↦ [] ]) t → i < n) [
-  | inl there ↦ λ at. there
-  | inr past ↦ λ at. absurd (Contains-nil t at)
-]
-
-cut-within : {X : Type 0} (n : ℕ) (lists : ℕ → List X) (i : ℕ) (t : X) → Contains (cut n lists i) t → (i < n) × Contains (lists i) t
-cut-within n lists i t at =
-    let low = cut-low_only n lists i t at in
-    (low, subst (λ l. Contains l t) (cut-low n lists i low) at)
-
-within-cut : {X : Type 0} (n : ℕ) (lists : ℕ → List X) (i : ℕ) (t : X) → i < n → Contains (lists i) t → Contains (cut n lists i) t
-within-cut n lists i t low at = subst (λ l. Contains l t) (sym (cut-low n lists i low)) at
 
 -- ---- passes over the first nodes
 
@@ -76,7 +39,7 @@ tree_same tree p scene is pairs (suc n) each family other same =
     node_same scene n (pairs n) (all_low tree p scene is n (pairs n) own.each) (tree_passes scene pairs n family) (tree_passes scene pairs n other)
     (tree_same tree p scene is pairs n (λ k low. each k (omega (arith, low))) family other same)
 
--- ---- the last round
+-- ---- the lists of the scene
 
 module _ (tree : List TreeNode) (connected : IsConnected tree) (stands_for : ℕ → List ℕ → Bool) (triple : ℕ → ℕ × ℕ → NumberTriple) (scene : Scene ℕ (ℕ × ℕ)) (shows : Shows (as_numbers stands_for) tree scene triple)
     (old : Prepared) (fits : FitsTree tree old) (accepted : HasNoCrossPlace tree) (is : IsSceneOf tree old scene) where
@@ -95,6 +58,8 @@ module _ (tree : List TreeNode) (connected : IsConnected tree) (stands_for : ℕ
       let gives = λ (x : ℕ). (is.gives i pair v x there.0 there.1).0 in
       gives_one tree old fits accepted k (shows.pattern_at i) (shows.stands i k s) pair (subst (λ i. Contains (lists_left old i) pair) (sym here) there.1) v x y
       (subst (λ i. GivesAt old i pair v x) (sym here) (gives x first)) (subst (λ i. GivesAt old i pair v y) (sym here) (gives y second))
+
+  -- ---- the last round
 
   module _ (last new : Prepared) (before : IsReached tree old last) (round : IsRound tree last new) (after : IsReached tree old new) (same : (i : ℕ) → lists_left new i ≡ lists_left last i) where
     abbrev left : ℕ → List (ℕ × ℕ)
@@ -120,8 +85,8 @@ module _ (tree : List TreeNode) (connected : IsConnected tree) (stands_for : ℕ
         ) in
         subst (λ n. tree_passes scene round.0 n (listed left) i pair) (sym is.nodes) ((tree_same tree last scene here round.0 (length tree) round.1 (is_left_of last) (listed left) swap i pair there.0).0 passed)
 
-    greatest : IsGreatest scene (listed whole) (listed left)
-    greatest = record {
+    pub unchanged_greatest : IsGreatest scene (listed whole) (listed left)
+    unchanged_greatest = record {
       consistent = unchanged_is_consistent scene round.0 (tree_shown (as_numbers stands_for) tree scene triple shows connected) (listed left) (λ i t v x y at. one i t v x y (within i t at))
           (λ i t at. cut-low_only places (lists_left new) i t at) (plans round.0 (plan_of tree round.0 round.1)) unchanged;
       within = within;
@@ -132,41 +97,46 @@ module _ (tree : List TreeNode) (connected : IsConnected tree) (stands_for : ℕ
           );
     }
 
-    listed_there : (lists : ℕ → List (ℕ × ℕ)) (k : ℕ) (part : TriplePat) → StandsAt tree k part → shown triple (cut places lists) part ≡ shown triple lists part
-    listed_there lists k part stands = ap (map (triple (entry_of part))) (cut-low places lists (entry_of part) (shows.found k part stands).0)
+  -- ---- one round over forests
 
-    pub greatest_left : IsGreatestConsistent (as_numbers stands_for) tree (shown triple (lists_left old)) (shown triple (lists_left new))
-    greatest_left = greatest_same (as_numbers stands_for) tree (shown triple whole) (shown triple left) (shown triple (lists_left old)) (shown triple (lists_left new)) (listed_there (lists_left old)) (listed_there (lists_left new))
-        (greatest_shown (as_numbers stands_for) tree scene triple shows whole left greatest)
+  module _ (new : Prepared) (round : IsRound tree old new) (forests : (k : ℕ) → k < length tree → IsForestNode tree k) where
+    enough : (k : ℕ) → k < length scene.parents → IsEnough scene k (round.0 k)
+    enough k low =
+        let there = subst (λ n. k < n) is.nodes low in
+        let by = (round.1 k there).forest (forests k there) in
+        subst (IsEnough scene k) (sym by.3) (stripped_is_enough (as_numbers stands_for) tree scene triple shows k by.0 by.1 by.2)
 
--- ---- the tree of a pattern
+    passed : Holding (ℕ × ℕ)
+    passed = tree_passes scene round.0 (length scene.parents) (listed whole)
 
-module _ (stands_for : ℕ → List ℕ → Bool) (triple : ℕ → ℕ × ℕ → NumberTriple) where
-  -- a pair is read as the triple that it stands for
-  abbrev readings : ℕ → Interpretation ℕ (ℕ × ℕ)
-  readings i = record {
-    subject = λ pair. (triple i pair).subject;
-    predicate = λ pair. (triple i pair).predicate;
-    object = λ pair. (triple i pair).object;
-    same = ◌==◌;
-    stands_for = stands_for;
-  }
+    left_is : (i : ℕ) (pair : ℕ × ℕ) → Contains (cut places (lists_left new) i) pair ↔ passed i pair
+    unfolding passed
+    left_is i pair = (
+      λ at. (
+          let there = cut-within places (lists_left new) i pair at in
+          (same i pair there.0).0 ((round.2 scene is i pair there.0).0 there.1)
+          ),
+      λ h. (
+          let low = cut-low_only places (lists_left old) i pair (round_within scene round.0 (listed whole) (length scene.parents) i pair h) in
+          within-cut places (lists_left new) i pair low ((round.2 scene is i pair low).1 ((same i pair low).1 h))
+          ),
+    ) where
+      swap : AreSameIn scene (is_left_of old) (listed whole)
+      swap j t low = (λ at. within-cut places (lists_left old) j t low at, λ at. (cut-within places (lists_left old) j t at).1)
 
-  by_tree : (tree : List TreeNode) (old last new : Prepared) (is : IsPatternTree tree) → tree ≡ tree_of is.pattern → FitsTree tree old → HasNoCrossPlace tree → IsReading old triple → IsReached tree old last → IsRound tree last new →
-      IsReached tree old new → ((i : ℕ) → lists_left new i ≡ lists_left last i) → IsGreatestConsistent (as_numbers stands_for) tree (shown triple (lists_left old)) (shown triple (lists_left new))
-  by_tree tree old last new is tree_is fits accepted reading before round after same =
-      let scene = scene_of readings is.pattern in
-      let shows : Shows (as_numbers stands_for) tree scene triple = subst (λ tree. Shows (as_numbers stands_for) tree scene triple) (sym tree_is)
-      (scene_shows (as_numbers stands_for) readings triple (record { subject = λ i y. refl; predicate = λ i y. refl; object = λ i y. refl }) max_variables is.pattern is.keeps_limits) in
-      let connected : IsConnected tree = subst IsConnected (sym tree_is) (tree-connected is.pattern is.well_designed) in
-      greatest_left tree connected stands_for triple scene shows old fits accepted (scene_of_shows tree old fits triple reading stands_for scene shows) last new before round after same
+      same : (i : ℕ) (pair : ℕ × ℕ) → i < places → tree_passes scene round.0 (length tree) (is_left_of old) i pair ↔ tree_passes scene round.0 (length scene.parents) (listed whole) i pair
+      same i pair low = subst (λ n. tree_passes scene round.0 (length tree) (is_left_of old) i pair ↔ tree_passes scene round.0 n (listed whole) i pair) (sym is.nodes)
+          (tree_same tree old scene is round.0 (length tree) round.1 (is_left_of old) (listed whole) swap i pair low)
 
-pub pruned_left : (tree : List TreeNode) (old last new : Prepared) → FitsTree tree old → HasNoCrossPlace tree → IsReached tree old last → IsRound tree last new → AreInOrder last new → HasLayoutOf last new →
-    ((i : ℕ) → lists_left new i ≡ lists_left last i) → IsPatternTree tree → (stands_for : ℕ → List ℕ → Bool) (triple : ℕ → ℕ × ℕ → NumberTriple) → IsReading old triple →
-    AreLeftOf (as_numbers stands_for) tree triple (lists_left old) (lists_left new)
-pruned_left tree old last new fits accepted before round in_order layout same is stands_for triple reading =
-    let after = reached_more tree old last new before round in_order layout in
-    record {
-      greatest = by_tree stands_for triple tree old last new is is.is fits accepted reading before round after same;
-      in_order = after.in_order;
-    }
+    pub forest_greatest : IsGreatest scene (listed whole) (listed (cut places (lists_left new)))
+    unfolding passed
+    forest_greatest =
+        let passes = two_passes_are_enough scene round.0 (tree_shown (as_numbers stands_for) tree scene triple shows connected) (listed whole) one (λ i t at. cut-low_only places (lists_left old) i t at) enough in
+        record {
+          consistent = record {
+            values = λ p q v x governs has o. (let found = passes.consistent.values p q v x governs has (o.0, (left_is q o.0).0 o.1, o.2) in (found.0, (left_is p found.0).1 found.1, found.2));
+            filled = λ p q governs f. (let found = passes.consistent.filled p q governs (f.0, (left_is q f.0).0 f.1) in (found.0, (left_is p found.0).1 found.1));
+          };
+          within = λ i t at. passes.within i t ((left_is i t).0 at);
+          largest = λ each consistent inside i t at. (left_is i t).1 (passes.largest each consistent inside i t at);
+        }

@@ -3,6 +3,7 @@ pub mod Clearing
 pub mod Emptying
 pub mod FirstValues
 pub mod GatherLaws
+pub mod CutLists
 pub mod Greatest
 pub mod Layouts
 pub mod NodeLaws
@@ -15,3 +16,4 @@ pub mod Reductions
 pub mod SceneLaws
 pub mod Sets
 pub mod Starting
+pub mod TreePruned

@@ -15,7 +15,7 @@ use crate::lives::{empty_node, is_alive};
 use crate::passes::take_passes;
 use crate::starts::first_values;
 use mask_steps::bits;
-use node_plans::node_pairs;
+use node_plans::{all_forests, node_pairs};
 use pattern_tree::Tree;
 use tree_relations::Prepared;
 
@@ -64,12 +64,10 @@ fn take_round(prepared: &mut Prepared<'_>, tree: &Tree<'_>)
     }
 }
 
-/// Leaves of the pairs of each triple pattern just those whose triples are in the greatest consistent family within what
-/// the pairs stand for. Nothing but the pool changes.
-pub fn prune(prepared: &mut Prepared<'_>, tree: &Tree<'_>)
+/// Takes rounds until one drops nothing.
+fn take_rounds(prepared: &mut Prepared<'_>, tree: &Tree<'_>)
     requires fits { FitsTree tree.now prepared.old }
     requires accepted { HasNoCrossPlace tree.now }
-    ensures fits { FitsTree tree.now prepared.new }
     ensures layout { HasLayoutOf prepared.old prepared.new }
     ensures left { IsPatternTree tree.now → (stands_for : ℕ → List ℕ → Bool) (triple : ℕ → ℕ × ℕ → NumberTriple) → IsReading prepared.old triple →
         AreLeftOf (as_numbers stands_for) tree.now triple (lists_left prepared.old) (lists_left prepared.new) }
@@ -82,5 +80,22 @@ pub fn prune(prepared: &mut Prepared<'_>, tree: &Tree<'_>)
             return;
         }
         before = after;
+    }
+}
+
+/// Leaves of the pairs of each triple pattern just those whose triples are in the greatest consistent family within what
+/// the pairs stand for. Nothing but the pool changes. Where each node is a forest, one round is enough.
+pub fn prune(prepared: &mut Prepared<'_>, tree: &Tree<'_>)
+    requires fits { FitsTree tree.now prepared.old }
+    requires accepted { HasNoCrossPlace tree.now }
+    ensures fits { FitsTree tree.now prepared.new }
+    ensures layout { HasLayoutOf prepared.old prepared.new }
+    ensures left { IsPatternTree tree.now → (stands_for : ℕ → List ℕ → Bool) (triple : ℕ → ℕ × ℕ → NumberTriple) → IsReading prepared.old triple →
+        AreLeftOf (as_numbers stands_for) tree.now triple (lists_left prepared.old) (lists_left prepared.new) }
+{
+    if all_forests(tree) {
+        take_round(prepared, tree);
+    } else {
+        take_rounds(prepared, tree);
     }
 }

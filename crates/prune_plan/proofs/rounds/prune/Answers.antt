@@ -1,29 +1,13 @@
-use Rattle.std.proofs.Common.{◌≡◌, sym, ◌∙◌}
-use Rattle.prune_plan.proofs.Greatest.{pruned_left}
-use Rattle.mask_steps.specs.Measure.{mask_bits}
-use Rattle.prune_plan.proofs.Layouts.{tree_fits, layout_then}
-use Rattle.prune_plan.proofs.Pruned.{reached_first, reached_more}
+use Rattle.prune_plan.proofs.Layouts.{tree_fits}
+use Rattle.prune_plan.proofs.TreePruned.{pruned_forest}
 use Rattle.prune_plan.proofs.rounds.prune.Goals as goal
 
-pub loop-before-init : goal.loop-before-init
-loop-before-init c = (c.bits-before.ensures, reached_first c.args.tree.now c.args.prepared.now c.requires.fits)
+pub returns-then-all_forests-clause-fits : goal.returns-then-all_forests-clause-fits
+returns-then-all_forests-clause-fits c = tree_fits c.args.tree.now c.args.prepared.now c.take_round.new.prepared c.take_round.ensures.layout c.requires.fits
 
-pub take_round-requires-clause-fits : goal.take_round-requires-clause-fits
-take_round-requires-clause-fits c = tree_fits c.args.tree.now c.args.prepared.now c.loop-before.prepared c.loop-before.invariant.1.layout c.requires.fits
+pub returns-then-all_forests-clause-left : goal.returns-then-all_forests-clause-left
+returns-then-all_forests-clause-left c =
+    pruned_forest c.args.tree.now c.args.prepared.now c.take_round.new.prepared c.requires.fits c.requires.accepted c.take_round.ensures.round c.take_round.ensures.in_order (c.all_forests.ensures.0 c.if-all_forests.true)
 
-pub loop-before-preserved : goal.loop-before-preserved
-loop-before-preserved c = (
-  c.bits-after.ensures,
-  reached_more c.args.tree.now c.args.prepared.now c.loop-before.prepared c.take_round.new.prepared c.loop-before.invariant.1 c.take_round.ensures.round c.take_round.ensures.in_order c.take_round.ensures.layout,
-)
-
-pub returns-then-after-before-clause-fits : goal.returns-then-after-before-clause-fits
-returns-then-after-before-clause-fits c =
-    let old = c.args.prepared.now in
-    tree_fits c.args.tree.now old c.take_round.new.prepared (layout_then old c.loop-before.prepared c.take_round.new.prepared c.loop-before.invariant.1.layout c.take_round.ensures.layout) c.requires.fits
-
-pub returns-then-after-before-clause-left : goal.returns-then-after-before-clause-left
-returns-then-after-before-clause-left c =
-    let same : mask_bits c.take_round.new.prepared ≡ mask_bits c.loop-before.prepared = sym c.bits-after.ensures ∙ c.if-after-before.true ∙ c.loop-before.invariant.0 in
-    pruned_left c.args.tree.now c.args.prepared.now c.loop-before.prepared c.take_round.new.prepared c.requires.fits c.requires.accepted c.loop-before.invariant.1 c.take_round.ensures.round c.take_round.ensures.in_order
-    c.take_round.ensures.layout (c.take_round.ensures.narrows.same same)
+pub returns-else-all_forests-clause-fits : goal.returns-else-all_forests-clause-fits
+returns-else-all_forests-clause-fits c = tree_fits c.args.tree.now c.args.prepared.now c.take_rounds.new.prepared c.take_rounds.ensures.layout c.requires.fits
