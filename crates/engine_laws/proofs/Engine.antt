@@ -35,7 +35,7 @@ use Rattle.engine_laws.proofs.VariableKinds.{apart}
 use Rattle.engine_laws.proofs.WholeWay.{way_bag}
 
 -- values are told apart as numbers
-values_tell : (terms : Terms) → TellsValues (values_of terms)
+pub values_tell : (terms : Terms) → TellsValues (values_of terms)
 values_tell terms v w = (λ same. eqb-true v w same, λ is. eq-eqb v w is)
 
 names_texts : (terms : Terms) → IsNaming (values_of terms) as_terms (text_at terms) (texts_at terms)

@@ -4,5 +4,6 @@ pub mod Examples
 pub mod Families
 pub mod ShownTerms
 pub mod Tables
+pub mod Unmatched
 pub mod VariableKinds
 pub mod WholeWay

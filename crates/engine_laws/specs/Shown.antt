@@ -1,5 +1,5 @@
 -- What is prepared for a tree, as names of the matches of its triple patterns in a graph.
-use Rattle.std.specs.Prelude.{◌≡◌, ◌↔◌, ℕ, List, Contains, IsTrue}
+use Rattle.std.specs.Prelude.{◌≡◌, ◌≢◌, ◌↔◌, ℕ, List, AllPairs, Contains, IsTrue}
 use Rattle.bm_term.specs.declared.triple.Triple.{Triple}
 use Rattle.alg_model.specs.declared.pattern.Place.TheVariants as places
 use Rattle.alg_model.specs.declared.pattern.TriplePat.{TriplePat}
@@ -8,7 +8,7 @@ use Rattle.naming_laws.specs.Naming.{named_family}
 use Rattle.pattern_tree.specs.Solution.{all_matches}
 use Rattle.pattern_tree.specs.Standing.{StandsAt}
 use Rattle.pattern_tree.specs.Tree.{TreeNode}
-use Rattle.pruning_laws.specs.Shown.{entry_of, shown}
+use Rattle.pruning_laws.specs.Shown.{entry_of, shown, TellItems}
 use Rattle.term_numbers.specs.Numbering.{Terms}
 use Rattle.tree_relations.specs.declared.prepared.PlaceKind.{PlaceKind}
 use Rattle.tree_relations.specs.declared.prepared.Prepared.{Prepared}
@@ -25,6 +25,13 @@ pub record ShowsMatches (terms : Terms) (graph : List Triple) (n : ℕ) (tree : 
   pub texts : (k : ℕ) (pattern : TriplePat) (values : NumberTriple) → StandsAt tree k pattern → Contains (shown triple (lists_left p) pattern) values → HaveTexts terms values
   pub matches : (k : ℕ) (pattern : TriplePat) (match : Triple) → StandsAt tree k pattern →
       Contains (named_family (texts_at terms) (shown triple (lists_left p)) pattern) match ↔ Contains (all_matches as_terms n graph pattern) match
+
+-- no pair comes twice, each stands for a triple of its own, and those of a triple pattern are told apart by their texts
+pub record TellsShown (terms : Terms) (tree : List TreeNode) (p : Prepared) (triple : ℕ → ℕ × ℕ → NumberTriple) : Type 0 where
+  pub once : (i : ℕ) → AllPairs (λ x y. x ≢ y) (lists_left p i)
+  pub apart : TellItems triple (lists_left p)
+  pub told : (k : ℕ) (pattern : TriplePat) (x y : NumberTriple) → StandsAt tree k pattern → Contains (shown triple (lists_left p) pattern) x →
+      Contains (shown triple (lists_left p) pattern) y → texts_at terms x ≡ texts_at terms y → x ≡ y
 
 -- where a triple pattern of the tree has a term, the triples of its pairs have values that stand for it
 abbrev pub ShowsTerms : Terms → List TreeNode → (ℕ → List (ℕ × ℕ)) → (ℕ → ℕ × ℕ → NumberTriple) → Type 0

@@ -1,5 +1,6 @@
 // The laws of the engine. Each call does nothing: its contract is the law.
 ghost use Rattle.std.specs.Prelude.{◌≡◌, ◌≢◌, ◌↔◌, ℕ, List, map, AllPairs, Contains, IsPermutation};
+ghost use Rattle.alg_model.specs.declared.pattern.TriplePat.{TriplePat};
 ghost use Rattle.alg_model.specs.Eval.{Interpretation, as_terms, eval};
 ghost use Rattle.alg_model.specs.Limits.{PatternKeepsLimits};
 ghost use Rattle.alg_model.specs.Pattern.{Algebra};
@@ -7,10 +8,13 @@ ghost use Rattle.alg_model.specs.Row.{Row};
 ghost use Rattle.alg_model.specs.Solution.{TellsValues, TellsTriples};
 ghost use Rattle.alg_model.specs.WellDesigned.{IsWellDesigned};
 ghost use Rattle.bm_term.specs.declared.triple.Triple.{Triple};
-ghost use Rattle.engine_laws.specs.Shown.{ShowsMatches, ShowsTerms, HasEntriesOf};
+ghost use Rattle.engine_laws.specs.Shown.{ShowsMatches, ShowsTerms, TellsShown, HasEntriesOf};
 ghost use Rattle.engine_laws.specs.Terms.{text_at, values_of, RowsHaveTexts};
 ghost use Rattle.engine_laws.specs.WholeWay.{NamesMatches, AreFlat, AreBestLeft};
 ghost use Rattle.index_file.specs.Version.{NumbersGraph};
+ghost use Rattle.minimality_laws.specs.SimpleTree.{AreForests, SharesOne};
+ghost use Rattle.multiway_join.specs.FlatRows.{flat_rows_of};
+ghost use Rattle.multiway_join.specs.JoinOrder.{IsJoinOrder};
 ghost use Rattle.naming_laws.specs.Naming.{named_row};
 ghost use Rattle.pattern_tree.specs.BestRows.{AreBest};
 ghost use Rattle.pattern_tree.specs.Solution.{Family, IsMaximalRow};
@@ -38,7 +42,8 @@ pub fn whole_way_law<W, Y, V, X>()
 {}
 
 /// The whole way with what the engine prepares for a graph, what pruning leaves of it, its flat rows, and the best of
-/// these: named by the terms of the graph, these rows are the rows of evaluation, as one bag. Each value that is bound
+/// these: named by the terms of the graph, these rows are the rows of evaluation, as one bag. On simple trees the flat rows
+/// are their own best rows. Each value that is bound
 /// there has a text. What is left of a triple pattern has its terms, and stands for the same triples as before.
 pub fn prepared_way_law()
     ensures bag { (graph : List Triple) (numbering : Numbering) (n : ℕ) (pattern : Algebra) (p pruned : Prepared) (triple : ℕ → ℕ × ℕ → NumberTriple) (rows best : List (Row ℕ)) →
@@ -46,6 +51,11 @@ pub fn prepared_way_law()
         AreLeftOf (values_of numbering.terms) (tree_of pattern) triple (lists_left p) (lists_left pruned) →
         AreFlat (values_of numbering.terms) n (tree_of pattern) (shown triple (lists_left pruned)) rows → AreBest rows best →
         IsPermutation (eval as_terms n pattern graph) (map (named_row (text_at numbering.terms)) best) }
+    ensures unmatched { (graph : List Triple) (numbering : Numbering) (n : ℕ) (pattern : Algebra) (p pruned : Prepared) (triple : ℕ → ℕ × ℕ → NumberTriple) (counts : TriplePat → ℕ) (ordered : List TreeNode) →
+        NumbersGraph graph numbering → IsWellDesigned pattern → PatternKeepsLimits n pattern → ShowsMatches numbering.terms graph n (tree_of pattern) p triple → TellsShown numbering.terms (tree_of pattern) p triple →
+        AreLeftOf (values_of numbering.terms) (tree_of pattern) triple (lists_left p) (lists_left pruned) →
+        AreForests (tree_of pattern) → SharesOne (tree_of pattern) → IsJoinOrder counts (tree_of pattern) ordered →
+        AreBest (flat_rows_of (values_of numbering.terms) n (shown triple (lists_left pruned)) ordered) (flat_rows_of (values_of numbering.terms) n (shown triple (lists_left pruned)) ordered) }
     ensures texts { (graph : List Triple) (numbering : Numbering) (n : ℕ) (pattern : Algebra) (p pruned : Prepared) (triple : ℕ → ℕ × ℕ → NumberTriple) (rows best : List (Row ℕ)) →
         NumbersGraph graph numbering → IsWellDesigned pattern → PatternKeepsLimits n pattern → ShowsMatches numbering.terms graph n (tree_of pattern) p triple →
         AreLeftOf (values_of numbering.terms) (tree_of pattern) triple (lists_left p) (lists_left pruned) →

@@ -1,4 +1,5 @@
 use Rattle.engine_laws.proofs.Engine.{engine_bag, engine_texts}
+use Rattle.engine_laws.proofs.Unmatched.{flat_rows_are_best}
 use Rattle.engine_laws.proofs.ShownTerms.{left_terms, reading_same}
 use Rattle.tree_relations.specs.Readings.{lists_left}
 use Rattle.engine_laws.proofs.laws.prepared_way_law.Goals as goal
@@ -6,6 +7,10 @@ use Rattle.engine_laws.proofs.laws.prepared_way_law.Goals as goal
 pub returns-clause-bag : goal.returns-clause-bag
 returns-clause-bag c = λ graph numbering n pattern p pruned triple rows best numbers well keeps shows left flat chosen.
     engine_bag graph numbering n pattern p pruned triple rows best numbers well keeps shows left flat chosen
+
+pub returns-clause-unmatched : goal.returns-clause-unmatched
+returns-clause-unmatched c = λ graph numbering n pattern p pruned triple counts ordered numbers well keeps shows tells left forests share order.
+    flat_rows_are_best graph numbering n pattern p triple numbers well keeps shows tells pruned left counts ordered forests share order
 
 pub returns-clause-texts : goal.returns-clause-texts
 returns-clause-texts c = λ graph numbering n pattern p pruned triple rows best numbers well keeps shows left flat chosen.

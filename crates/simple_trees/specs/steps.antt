@@ -1,0 +1,2 @@
+-- Carries proofs only: a tree as lists.
+pub mod Listed
