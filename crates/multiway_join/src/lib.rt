@@ -5,8 +5,10 @@
 
 mod binding;
 mod cursor;
+mod join;
 mod laws;
 mod order;
 mod search;
 
+pub use join::flat_rows;
 pub use laws::{flat_rows_law, join_order_law};

@@ -1,5 +1,5 @@
 -- Carries proofs only: the flat rows as rows of cells, where the set of the matched nodes is a word.
-use Rattle.std.specs.Prelude.{◌≡◌, ℕ, zero, suc, ◌+◌, ◌^◌, ◌==◌, ◌<◌, Bool, true, false, if◌then◌else◌, List, [], ◌∷◌, ◌++◌, map, length, All, Option, Some, None, IfSome}
+use Rattle.std.specs.Prelude.{◌≡◌, ℕ, zero, suc, ◌+◌, ◌^◌, ◌==◌, ◌<◌, Bool, true, false, if◌then◌else◌, List, [], ◌∷◌, ◌++◌, map, length, replicate, All, Option, Some, None, IfSome}
 use Rattle.std.specs.List.{flat_map}
 use Rattle.std.specs.Int.{bit_at}
 use Rattle.std.specs.Int.Bits.{bit_or}
@@ -51,6 +51,11 @@ module _ (prepared : Prepared) where
   -- those of some triple patterns of node k
   abbrev pub cells_within : List TriplePat → List TreeNode → ℕ → ℕ → List ℕ → List ℕ → List (List ℕ)
   cells_within patterns nodes k matched entry row = through (cells_dead nodes k matched entry) (cells_from nodes (suc k) (bit_or matched (2 ^ k))) patterns row
+
+-- those of all nodes, for rows of n cells
+abbrev pub flat_cells : Prepared → List TreeNode → ℕ → List (List ℕ)
+flat_cells prepared [] n = []
+flat_cells prepared (root ∷ nodes) n = cells_within prepared root.patterns nodes 0 0 (replicate n 0) (replicate n 0)
 
 -- the nodes can be joined: all their triple patterns can, and their parents have bits
 pub record CanJoinNode (prepared : Prepared) (width : ℕ) (node : TreeNode) : Type 0 where
