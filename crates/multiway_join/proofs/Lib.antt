@@ -6,3 +6,4 @@ pub mod Nodes
 pub mod OneOrder
 pub mod Same
 pub mod Sound
+pub mod Restoring

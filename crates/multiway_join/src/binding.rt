@@ -1,5 +1,5 @@
 //! What a pair of a relation binds in a row of cells, and what a row asks of the next pair.
-ghost use Rattle.std.specs.Prelude.{◌≡◌, ℕ, ◌+◌, ◌<◌, ◌≤◌, ◌^◌, true, false, IsTrue, Some, None, length};
+ghost use Rattle.std.specs.Prelude.{◌≡◌, ℕ, ◌+◌, ◌<◌, ◌≤◌, ◌^◌, true, false, IsTrue, Some, None, length, slice_index, slice_set};
 ghost use Rattle.tree_relations.specs.Prepared.{count_of, FitsTogether};
 ghost use Rattle.tree_relations.specs.Readings.{value_of};
 ghost use Rattle.multiway_join.specs.steps.Binding.{bind_pair, bind_side, cell_at, with_cell, put_cell, HasCell, HasNumber};
@@ -75,27 +75,31 @@ pub(crate) fn asked_at(prepared: &Prepared<'_>, side: Option<SidePlace>, row: &[
     }
 }
 
-/// Puts a cell into a row, if it agrees with what is bound, or changes nothing.
+/// Puts a cell into a row, if it agrees with what is bound, and says whether it does.
+#[tactic(auto, using(crate::proofs::Restoring::restored_cell))]
 fn put(row: &mut [u32], var: u8, cell: u32) -> bool
     requires { var < length row.old }
     ensures put { result ≡ true → put_cell var cell row.old ≡ Some row.new }
-    ensures other { result ≡ false → (put_cell var cell row.old ≡ None) × (row.new ≡ row.old) }
+    ensures other { result ≡ false → put_cell var cell row.old ≡ None }
+    ensures restored { slice_set row.new var (slice_index row.old var) ≡ row.old }
 {
-    let place = &mut row[var as usize];
-    if *place == 0 {
-        *place = cell;
+    let place = var as usize;
+    if row[place] == 0 {
+        row[place] = cell;
         return true;
     }
-    *place == cell
+    row[place] == cell
 }
 
-/// Binds the variable of a side to what a number there gives it, if the row agrees, or changes nothing.
+/// Binds the variable of a side to what a number there gives it, if the row agrees.
 fn bind(prepared: &Prepared<'_>, side: Option<SidePlace>, n: u32, row: &mut [u32]) -> bool
     requires together { FitsTogether prepared.now }
     requires number { HasNumber prepared.now side n }
     requires cell { HasCell (length row.old) side }
     ensures bound { result ≡ true → bind_side prepared.now side n row.old ≡ Some row.new }
-    ensures other { result ≡ false → (bind_side prepared.now side n row.old ≡ None) × (row.new ≡ row.old) }
+    ensures other { result ≡ false → bind_side prepared.now side n row.old ≡ None }
+    ensures restored { with_cell side (cell_at side row.old) row.new ≡ row.old }
+    ensures width { length row.new ≡ length row.old }
 {
     match side {
         Some(place) => put(row, place.var.0, value_of(prepared, place.kind, n) + 1),
@@ -155,6 +159,7 @@ pub(crate) fn restore(entry: &Entry<'_>, cells: Saved, row: &mut [u32])
 }
 
 /// Binds the variables of an entry to what a pair gives them, if the row agrees.
+#[tactic(auto, using(crate::proofs::Restoring::restored_sides))]
 pub(crate) fn bind_both(prepared: &Prepared<'_>, entry: &Entry<'_>, pair: (u32, u32), row: &mut [u32]) -> bool
     requires together { FitsTogether prepared.now }
     requires first_number { HasNumber prepared.now entry.now.first pair.0 }
