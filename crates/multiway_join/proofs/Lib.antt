@@ -7,3 +7,5 @@ pub mod OneOrder
 pub mod Same
 pub mod Sound
 pub mod Restoring
+pub mod Wanted
+pub mod Agreement

@@ -132,6 +132,7 @@ fn one<'s, 'a>(rel: &'s PatRel<'a>, pool: &'s MaskPool, first: u32, second: u32)
 }
 
 /// The pairs left that have what is asked for at both sides.
+#[tactic(auto, using(crate::proofs::Wanted::asked_pairs))]
 fn asked_for<'s, 'a>(rel: &'s PatRel<'a>, pool: &'s MaskPool, first: Asked, second: Asked) -> Agreeing<'s, 'a>
     requires firsts { IsUsable pool.now rel.now.first }
     requires seconds { IsUsable pool.now rel.now.second }
