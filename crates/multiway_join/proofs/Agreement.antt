@@ -1,9 +1,10 @@
 -- The pairs that have what a row asks for are all that can agree with it.
-use Rattle.std.proofs.Common.{◌≡◌, ◌≢◌, ◌⊎◌, ℕ, ◌+◌, ◌<◌, ◌&&◌, inl, inr, Bool, true, false, List, [], ◌∷◌, length, get_or, set, filter, Option, Some, None, refl, sym, ◌∙◌, ap, subst, eqb-true, eq-eqb, arith}
+use Rattle.std.proofs.Common.{◌≡◌, ◌≢◌, ◌⊎◌, ℕ, ◌+◌, ◌<◌, ◌&&◌, inl, inr, Bool, true, false, List, [], ◌∷◌, length, get_or, set, filter, Contains, Option, Some, None, refl, sym, ◌∙◌, ap, subst, eqb-true, eq-eqb, arith}
 use Rattle.std.specs.Prelude.{◌==◌}
 use Rattle.std.specs.List.{filter_map}
 use Rattle.std.proofs.lemmas.Bool.{cases_Bool, cases_eq, and_from}
 use Rattle.std.proofs.lemmas.List.{get_or-set_other}
+use Rattle.pattern_rel.proofs.PairLaws.{Contains-filter}
 use Rattle.tree_relations.specs.declared.prepared.Entry.{Entry}
 use Rattle.tree_relations.specs.declared.prepared.Prepared.{Prepared}
 use Rattle.tree_relations.specs.declared.prepared.SidePlace.{SidePlace}
@@ -91,3 +92,8 @@ module _ (prepared : Prepared) where
           | inl passes ↦ second_none pair (not_asked e.second row second two pair.1 (let rest : is_asked_for second pair.1 ≡ false = rw passes at fails in rest))
           | inr is ↦ first_none pair (not_asked e.first row first one pair.0 is)
         ])
+
+-- what has what is asked for is one of all
+pub asked_left : (all pairs : List (ℕ × ℕ)) (first second : Asked) → HasAsked all first second pairs → (pair : ℕ × ℕ) → Contains pairs pair → Contains all pair
+asked_left all pairs first second has pair at =
+    ((Contains-filter (λ p. is_asked_for first p.0 && is_asked_for second p.1) all pair).0 (subst (λ (ps : List (ℕ × ℕ)). Contains ps pair) has at)).0

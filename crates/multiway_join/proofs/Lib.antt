@@ -9,3 +9,4 @@ pub mod Sound
 pub mod Restoring
 pub mod Wanted
 pub mod Agreement
+pub mod Searching

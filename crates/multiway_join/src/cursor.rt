@@ -1,5 +1,5 @@
 //! The pairs of a relation that agree with a row, one after the other.
-ghost use Rattle.std.specs.Prelude.{◌≡◌, ℕ, ◌<◌, [], ◌∷◌, map, filter, MatchOption, Some, None, length};
+ghost use Rattle.std.specs.Prelude.{◌≡◌, ℕ, ◌<◌, [], ◌∷◌, map, filter, Contains, MatchOption, Some, None, length};
 ghost use Rattle.std.specs.List.{filter_map};
 ghost use Rattle.pattern_rel.specs.Bounds.{is_wanted, seconds_beside};
 ghost use Rattle.pattern_rel.specs.Folds.{IsUsable};
@@ -155,7 +155,8 @@ pub(crate) fn agreeing_with<'s, 'a>(prepared: &'s Prepared<'a>, entry: &'s Entry
     requires seconds { IsUsable prepared.now.pool entry.now.rel.second }
     requires first { HasCell (length row.now) entry.now.first }
     requires second { HasCell (length row.now) entry.now.second }
-    ensures { filter_map (bind_pair prepared.now entry.now row.now) (coming result) ≡ filter_map (bind_pair prepared.now entry.now row.now) (pairs_left prepared.now.pool entry.now.rel) }
+    ensures left { (pair : ℕ × ℕ) → Contains (coming result) pair → Contains (pairs_left prepared.now.pool entry.now.rel) pair }
+    ensures same { filter_map (bind_pair prepared.now entry.now row.now) (coming result) ≡ filter_map (bind_pair prepared.now entry.now row.now) (pairs_left prepared.now.pool entry.now.rel) }
 {
     let first = asked_at(prepared, entry.first, row);
     let second = asked_at(prepared, entry.second, row);

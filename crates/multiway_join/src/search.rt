@@ -1,9 +1,10 @@
 //! The search for the flat rows: a recursion over the nodes and their triple patterns.
-ghost use Rattle.std.specs.Prelude.{◌≡◌, ℕ, ◌+◌, ◌<◌, ◌≤◌, ◌++◌, true, false, if◌then◌else◌, [], All, map, length, OnOk, IfOk, IfSome};
+ghost use Rattle.std.specs.Prelude.{◌≡◌, ℕ, ◌+◌, ◌<◌, ◌≤◌, ◌++◌, true, false, if◌then◌else◌, [], All, map, length, Some, OnOk, IfOk, IfSome};
 ghost use Rattle.pattern_tree.specs.FlatTable.{row_of};
+ghost use Rattle.pattern_rel.specs.Left.{pairs_left};
 ghost use Rattle.tree_relations.specs.Prepared.{FitsTogether};
-ghost use Rattle.multiway_join.specs.steps.Binding.{bind_pair, CanJoin, HasCell, HasNumber};
-ghost use Rattle.multiway_join.specs.steps.Search.{Lists, ListsPair, as_node, cells_dead, cells_from, cells_within, holds_parent, patterns_in, CanJoinNode};
+ghost use Rattle.multiway_join.specs.steps.Binding.{bind_pair, continued_by, CanJoin, HasNumber, IsReady};
+ghost use Rattle.multiway_join.specs.steps.Search.{Lists, ListsAll, ListsPair, as_node, cells_dead, cells_from, cells_within, holds_parent, patterns_in, CanJoinNode};
 
 use crate::binding::{bind_both, restore, saved_cells};
 use crate::cursor::agreeing_with;
@@ -132,20 +133,49 @@ pub(crate) fn within(
         None => from_node(prepared, nodes, k + 1, matched | 1 << k, row, rows),
         Some((pattern, patterns)) => {
             let relation = prepared.entries.get(place_of(pattern.pattern));
-            let mut pairs = agreeing_with(prepared, relation, row);
-            let mut any = false;
-            while let Some(pair) = pairs.next() {
-                if with_pair(prepared, relation, pair, patterns, nodes, k, matched, entry, row, rows)? {
-                    any = true;
-                }
-            }
-            if any {
+            if with_pairs(prepared, relation, patterns, nodes, k, matched, entry, row, rows)? {
                 Ok(())
             } else {
                 dead_end(prepared, nodes, k, matched, entry, rows)
             }
         }
     }
+}
+
+/// Lists the rows that have a pair of a relation, for each pair left that the row agrees with, and says whether there is
+/// one.
+#[cycle(join)]
+fn with_pairs<'s, 'a>(
+    prepared: &'s Prepared<'a>,
+    relation: &'s Entry<'a>,
+    patterns: &[JoinPattern<'_>],
+    nodes: &[JoinNode<'_>],
+    k: u8,
+    matched: u64,
+    entry: &mut [u32],
+    row: &mut [u32],
+    rows: &mut FlatRows,
+) -> Result<bool, AllocError>
+    requires together { FitsTogether prepared.now }
+    requires few { k + length nodes.now < 64 }
+    requires width { length row.old ≡ rows.old.vars }
+    requires same_width { length entry.old ≡ rows.old.vars }
+    requires narrow { length row.old ≤ 64 }
+    requires ready { IsReady prepared.now (length row.old) relation.now }
+    requires patterns { All (CanJoin prepared.now (length row.old)) (patterns_in patterns.now) }
+    requires nodes { All (CanJoinNode prepared.now (length row.old)) (map as_node nodes.now) }
+    ensures listed { IfOk result (λ any. ListsAll (cells_within prepared.now (patterns_in patterns.now) (map as_node nodes.now) k matched entry.old) (continued_by prepared.now (Some relation.now) (pairs_left prepared.now.pool relation.now.rel) row.old) any rows.old rows.new) }
+    ensures row { OnOk result (row.new ≡ row.old) }
+    ensures entry { OnOk result (entry.new ≡ entry.old) }
+{
+    let mut pairs = agreeing_with(prepared, relation, row);
+    let mut any = false;
+    while let Some(pair) = pairs.next() {
+        if with_pair(prepared, relation, pair, patterns, nodes, k, matched, entry, row, rows)? {
+            any = true;
+        }
+    }
+    Ok(any)
 }
 
 /// Lists the rows that have a pair, where the row agrees with it, and says whether it does.
@@ -169,8 +199,7 @@ fn with_pair(
     requires narrow { length row.old ≤ 64 }
     requires first_number { HasNumber prepared.now relation.now.first pair.0 }
     requires second_number { HasNumber prepared.now relation.now.second pair.1 }
-    requires first_cell { HasCell (length row.old) relation.now.first }
-    requires second_cell { HasCell (length row.old) relation.now.second }
+    requires ready { IsReady prepared.now (length row.old) relation.now }
     requires patterns { All (CanJoin prepared.now (length row.old)) (patterns_in patterns.now) }
     requires nodes { All (CanJoinNode prepared.now (length row.old)) (map as_node nodes.now) }
     ensures listed { IfOk result (λ any. ListsPair (cells_within prepared.now (patterns_in patterns.now) (map as_node nodes.now) k matched entry.old) (bind_pair prepared.now relation.now row.old pair) any rows.old rows.new) }

@@ -4,6 +4,8 @@ use Rattle.std.specs.Prelude.{◌≡◌, ℕ, ◌+◌, ◌<◌, ◌==◌, Bool, 
 use Rattle.std.specs.List.{filter_map}
 use Rattle.alg_model.specs.declared.pattern.TriplePat.{TriplePat}
 use Rattle.alg_model.specs.Pattern.{triple_vars}
+use Rattle.pattern_rel.specs.Folds.{IsUsable}
+use Rattle.pattern_rel.specs.Left.{pairs_left}
 use Rattle.pruning_laws.specs.Shown.{entry_of}
 use Rattle.tree_relations.specs.declared.prepared.Entry.{Entry}
 use Rattle.tree_relations.specs.declared.prepared.Prepared.{Prepared}
@@ -64,3 +66,11 @@ pub record CanJoin (prepared : Prepared) (width : ℕ) (pattern : TriplePat) : T
   pub entry : Entry
   pub at : IsEntryAt prepared pattern entry
   pub below : (var : ℕ) → Contains (triple_vars pattern) var → var < width
+
+-- a relation can be walked for rows of so many cells
+pub record IsReady (prepared : Prepared) (width : ℕ) (e : Entry) : Type 0 where
+  pub firsts : IsUsable prepared.pool e.rel.first
+  pub seconds : IsUsable prepared.pool e.rel.second
+  pub first_cell : HasCell width e.first
+  pub second_cell : HasCell width e.second
+  pub numbers : (pair : ℕ × ℕ) → Contains (pairs_left prepared.pool e.rel) pair → HasNumber prepared e.first pair.0 × HasNumber prepared e.second pair.1

@@ -71,3 +71,8 @@ pub record Lists (more : List (List ℕ)) (old new : FlatTable) : Type 0 where
 abbrev pub ListsPair : (List ℕ → List (List ℕ)) → Option (List ℕ) → Bool → FlatTable → FlatTable → Type 0
 ListsPair live None any old new = (any ≡ false) × Lists [] old new
 ListsPair live (Some row) any old new = (any ≡ true) × Lists (live row) old new
+
+-- so are those of each row of a list
+abbrev pub ListsAll : (List ℕ → List (List ℕ)) → List (List ℕ) → Bool → FlatTable → FlatTable → Type 0
+ListsAll live [] any old new = (any ≡ false) × Lists [] old new
+ListsAll live (row ∷ rows) any old new = (any ≡ true) × Lists (flat_map live (row ∷ rows)) old new
