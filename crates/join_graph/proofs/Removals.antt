@@ -15,7 +15,7 @@ use Rattle.join_graph.proofs.Members.{cases_Member, Contains-from_not_left, IsMe
 use Rattle.join_graph.proofs.Cores.{EachHasTwoNeighbours-same, IsMember-from_two, no_leaf, IsLeaf-same}
 
 -- a step more
-IsLeft-push : (sets : List ℕ) (steps : List Member) (m n : Member) → IsLeft sets (steps ++ m ∷ []) n ↔ without (IsLeft sets steps) m n
+pub IsLeft-push : (sets : List ℕ) (steps : List Member) (m n : Member) → IsLeft sets (steps ++ m ∷ []) n ↔ without (IsLeft sets steps) m n
 IsLeft-push sets steps m n = (
   λ h. (
     (h.0, λ c. h.1 (Contains-append_left steps (m ∷ []) n c)),

@@ -20,12 +20,12 @@ use Rattle.multiway_join.specs.FlatRows.{or_dead_end, continued, ends}
 -- ---- lists of ends
 
 -- an end of a list is an end of it with a dead end for nothing
-live : {Y : Type 0} (list : List (Option Y)) (end : Option Y) → Contains list end → Contains (or_dead_end list) end
+pub live : {Y : Type 0} (list : List (Option Y)) (end : Option Y) → Contains list end → Contains (or_dead_end list) end
 live [] end at = absurd (Contains-nil end at)
 live (first ∷ list) end at = at
 
 -- and an end that is no dead end is one of the list
-from_live : {Y : Type 0} (list : List (Option Y)) (y : Y) → Contains (or_dead_end list) (Some y) → Contains list (Some y)
+pub from_live : {Y : Type 0} (list : List (Option Y)) (y : Y) → Contains (or_dead_end list) (Some y) → Contains list (Some y)
 from_live [] y at = let is = Contains-single None (Some y) at in absurd (cc)
 from_live (first ∷ list) y at = at
 
@@ -57,7 +57,7 @@ module _ {V X : Type 0} (interpretation : Interpretation V X) (tells : TellsValu
   -- ---- one triple pattern
 
   -- what continues a row solves the triple pattern too
-  continued_sound : (before : List TriplePat) (p : TriplePat) (row q : Row V) → VarsBelow (p ∷ []) → Solves before row → Contains (continued interpretation n family p row) q → Solves (before ++ p ∷ []) q × Extends q row
+  pub continued_sound : (before : List TriplePat) (p : TriplePat) (row q : Row V) → VarsBelow (p ∷ []) → Solves before row → Contains (continued interpretation n family p row) q → Solves (before ++ p ∷ []) q × Extends q row
   continued_sound before p row q below is at =
       let from = merges-Contains interpretation.same row (matches_of interpretation n p (family p)) q at in
       let s = from.0 in
@@ -75,7 +75,7 @@ module _ {V X : Type 0} (interpretation : Interpretation V X) (tells : TellsValu
       (solution-union interpretation n family tells before (p ∷ []) row s q is solves u.0 u.1, u.1.left)
 
   -- and each row that does so, and extends it, continues it
-  continued_complete : (before : List TriplePat) (p : TriplePat) (row q : Row V) → VarsBelow (p ∷ []) → Solves before row → Solves (before ++ p ∷ []) q → Extends q row → Contains (continued interpretation n family p row) q
+  pub continued_complete : (before : List TriplePat) (p : TriplePat) (row q : Row V) → VarsBelow (p ∷ []) → Solves before row → Solves (before ++ p ∷ []) q → Extends q row → Contains (continued interpretation n family p row) q
   continued_complete before p row q below is is' over =
       let parts = solution-cut interpretation n family tells before (p ∷ []) q is' in
       let r = parts.r in

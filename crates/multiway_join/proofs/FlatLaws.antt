@@ -21,7 +21,7 @@ use Rattle.multiway_join.proofs.Same.{AreAlike, order_alike, turned, connected_a
 use Rattle.multiway_join.proofs.Sound.{TreeVarsBelow, HasRoot, flat_sound}
 
 -- the variables of a triple pattern are of the pattern
-listed_vars : (pattern : Algebra) (p : TriplePat) (v : ℕ) → Contains (triple_patterns pattern) p → Contains (triple_vars p) v → Contains (vars_of pattern) v
+pub listed_vars : (pattern : Algebra) (p : TriplePat) (v : ℕ) → Contains (triple_patterns pattern) p → Contains (triple_vars p) v → Contains (vars_of pattern) v
 listed_vars (Bgp list) p v at has = Contains-flat_map triple_vars list p v at has
 listed_vars (Join left right) p v at has = elim (Contains-append_cases (triple_patterns left) (triple_patterns right) p at) as (λ _. Contains (vars_of left ++ vars_of right) v) [
   | inl there ↦ Contains-append_left (vars_of left) (vars_of right) v (listed_vars left p v there has)
@@ -32,13 +32,13 @@ listed_vars (LeftJoin left right) p v at has = elim (Contains-append_cases (trip
   | inr there ↦ Contains-append_right (vars_of left) (vars_of right) v (listed_vars right p v there has)
 ]
 
-tree_below : (n : ℕ) (pattern : Algebra) → HasVarsBelow n pattern → TreeVarsBelow n (tree_of pattern)
+pub tree_below : (n : ℕ) (pattern : Algebra) → HasVarsBelow n pattern → TreeVarsBelow n (tree_of pattern)
 tree_below n pattern few k p var s at = All-contains (λ var. var < n) (vars_of pattern) var few (listed_vars pattern p var (stands-listed pattern k p s) at)
 
-tree_root : (pattern : Algebra) → HasRoot (tree_of pattern)
+pub tree_root : (pattern : Algebra) → HasRoot (tree_of pattern)
 tree_root pattern = record { none = λ node place. (let same : record { parent = None; patterns = root_patterns pattern } ≡ node = cc in ap (λ node. node.parent) (sym same)) }
 
-tree_parents : (pattern : Algebra) → HasParentsFirst (tree_of pattern)
+pub tree_parents : (pattern : Algebra) → HasParentsFirst (tree_of pattern)
 tree_parents pattern = record { before = each } where
   each : (k : ℕ) (node : TreeNode) → 0 < k → slice_get (tree_of pattern) k ≡ Some node → (parent : ℕ) × (node.parent ≡ Some parent) × (parent < k)
   each zero node positive place = absurd (omega (arith, positive))

@@ -1,12 +1,11 @@
 -- Laws of texts and triples in the order of first sight.
-use Rattle.std.proofs.Common.{◌≡◌, ℕ, zero, suc, ◌⊎◌, inl, inr, Bool, false, bytes_eq, List, [], ◌∷◌, ◌++◌, Some, if◌then◌else◌, Contains, map, refl, sym, ◌∙◌, ap, subst, append_assoc, append-nil, length-append, arith, ◌<◌, length, get_or, All, Result, Ok, Err, IfOk}
+use Rattle.std.proofs.Common.{◌≡◌, ℕ, zero, suc, ◌⊎◌, inl, inr, Bool, true, false, bytes_eq, List, [], ◌∷◌, ◌++◌, Some, if◌then◌else◌, Contains, map, refl, sym, ◌∙◌, ap, subst, append_assoc, append-nil, length-append, arith, ◌<◌, length, get_or, All}
 use Rattle.std.proofs.lemmas.List.{get_or_append_left}
 use Rattle.std.proofs.lemmas.List.Elements.{All-head, All-tail, All-weaker, Contains-push_cases}
-use Rattle.std.proofs.lemmas.List.Quantifiers.{position-Some}
 use Rattle.std.proofs.lemmas.Map.Keys.{IsDistinct-push}
 use Rattle.std.proofs.lemmas.Option.{slice_get-get_or, get_or_from_slice_get}
 use Rattle.std.specs.Cmp.Lexicographic.{same_text, nat_list_eq_equiv}
-use Rattle.std.specs.List.{slice_get, list_any, position, IsDistinct}
+use Rattle.std.specs.List.{slice_get, list_any, IsDistinct}
 use Rattle.indexmap.specs.IndexSet.{insert_key}
 use Rattle.bm_term.specs.declared.triple.Triple.{Triple}
 use Rattle.bm_term.specs.Graph.{graph_of}
@@ -49,33 +48,28 @@ IsPlaced-found old text found place at same = record {
   only = λ x there. inl there;
 }
 
--- and so has one that a search finds
-pub IsPlaced-position : (old : List (List ℕ)) (text : List ℕ) (place : ℕ) → position (bytes_eq text) old ≡ Some place → IsPlaced old old text place
-IsPlaced-position old text place is =
-    let found = position-Some (bytes_eq text) old place text is in
-    IsPlaced-found old text (get_or old place text) place (slice_get-get_or old place text found.0) (sym (same_text text (get_or old place text) (sym found.1)))
+-- a text is put at the end if it is not there
+module _ (old : List (List ℕ)) (text : List ℕ) where
+  Adds-put : (b : Bool) → list_any (bytes_eq text) old ≡ b → Adds old (if b then old else old ++ text ∷ [])
+  Adds-put true there = Adds-none old old refl
+  Adds-put false none = record {
+    more = text ∷ [];
+    is = refl;
+    differ = λ h. IsDistinct-push nat_list_eq_equiv old text h none;
+  }
 
-pub IsPlaced-told : {E : Type 0} (old : List (List ℕ)) (text : List ℕ) (place : ℕ) (r : Result ℕ E) → position (bytes_eq text) old ≡ Some place → IfOk r (λ number. number ≡ place) → IfOk r (IsPlaced old old text)
-IsPlaced-told old text place (Ok number) is told = subst (IsPlaced old old text) (sym told) (IsPlaced-position old text place is)
-IsPlaced-told old text place (Err fault) is told = tt
+  only_put : (b : Bool) (x : List ℕ) → Contains (if b then old else old ++ text ∷ []) x → Contains old x ⊎ (x ≡ text)
+  only_put true x there = inl there
+  only_put false x there = elim (Contains-push_cases old text x there) as (λ _. Contains old x ⊎ (x ≡ text)) [ inl before ↦ inl before | inr same ↦ inr (sym same) ]
 
--- a text that is not there is put at the end
-pub IsPlaced-push : (old new : List (List ℕ)) (text : List ℕ) (place : ℕ) → list_any (bytes_eq text) old ≡ false → new ≡ insert_key bytes_eq old text → place ≡ length old → IsPlaced old new text place
-IsPlaced-push old new text place none is end =
-    let pushed : new ≡ old ++ text ∷ [] = is ∙ ap (λ b. if b then old else old ++ text ∷ []) none in
-    record {
-      at = subst (λ l. slice_get l place ≡ Some text) (sym pushed) (subst (λ k. slice_get (old ++ text ∷ []) k ≡ Some text) (sym end) (last old));
-      adds = record {
-        more = text ∷ [];
-        is = pushed;
-        differ = λ h. subst (IsDistinct bytes_eq) (sym pushed) (IsDistinct-push nat_list_eq_equiv old text h none);
-      };
-      only = λ x there. elim (Contains-push_cases old text x (subst (λ l. Contains l x) pushed there)) as (λ _. Contains old x ⊎ (x ≡ text)) [ inl before ↦ inl before | inr same ↦ inr (sym same) ];
-    }
-  where
-    last : (l : List (List ℕ)) → slice_get (l ++ text ∷ []) (length l) ≡ Some text
-    last [] = refl
-    last (x ∷ l) = last l
+-- and then it has the place at which an equal text stands
+pub IsPlaced-put : (old new : List (List ℕ)) (text : List ℕ) (place : ℕ) → new ≡ insert_key bytes_eq old text
+    → ((k : List ℕ) × (slice_get new place ≡ Some k) × (bytes_eq text k ≡ true)) → IsPlaced old new text place
+IsPlaced-put old new text place is stored = record {
+  at = stored.1 ∙ ap Some (sym (same_text text stored.0 (sym stored.2)));
+  adds = subst (Adds old) (sym is) (Adds-put old text (list_any (bytes_eq text) old) refl);
+  only = λ x there. only_put old text (list_any (bytes_eq text) old) x (subst (λ l. Contains l x) is there);
+}
 
 -- ---- triples with places
 

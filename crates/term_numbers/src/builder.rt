@@ -19,7 +19,7 @@ use std::marker::Model;
 /// A taker with a limit, which numbers triples as they come. It is seen as what it keeps: the distinct triples in the
 /// order of first sight, the limit, and whether there were more.
 ///
-/// It has each text once, and three numbers for each triple. A triple that it has costs look-ups and no copy. More than
+/// It has each text once, and three numbers for each triple. No text is copied. More than
 /// 4,294,967,295 nodes or predicates are want of memory too, as no number of four bytes is left.
 #[derive(Drop)]
 pub struct Builder<S: BuildHasher = BuildHasherDefault<DefaultHasher>> {
@@ -70,9 +70,9 @@ impl<S: BuildHasher + Copy> Builder<S> {
 }
 
 impl<S: BuildHasher> Builder<S> {
-    /// Takes a triple that is lent.
-    pub(crate) fn see(&mut self, triple: &Triple) -> Result<(), AllocError>
-        ensures ok { OnOk result (self.new ≡ after self.old triple.now) }
+    /// Takes a triple.
+    pub(crate) fn see(&mut self, triple: Triple) -> Result<(), AllocError>
+        ensures ok { OnOk result (self.new ≡ after self.old triple) }
         ensures err { OnErr result (self.new ≡ self.old) }
     {
         if self.were_more {
@@ -119,6 +119,6 @@ impl<S: BuildHasher> Taker for Builder<S> {
     ghost kept = { λ b. b };
 
     fn take(&mut self, triple: Triple) -> Result<(), AllocError> {
-        self.see(&triple)
+        self.see(triple)
     }
 }

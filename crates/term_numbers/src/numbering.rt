@@ -45,7 +45,7 @@ pub fn number_by<S: BuildHasher + Copy + Drop>(
 {
     let mut builder = Builder::with_hasher(alloc, hashers, limit);
     for triple in triples {
-        builder.see(triple)?;
+        builder.see(triple.clone()?)?;
     }
     builder.finish()
 }

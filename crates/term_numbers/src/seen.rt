@@ -9,20 +9,20 @@ use std::alloc::AllocError;
 use std::hash::BuildHasher;
 
 /// The places of a triple, where those of the triple before are known. A text is not hashed where it is the subject or
-/// the predicate of the triple before, and it is copied where it was not seen before.
+/// the predicate of the triple before, and it stays where it was not seen before.
 pub(crate) fn see_triple<S: BuildHasher>(
     nodes: &mut IndexSet<Term, S>,
     predicates: &mut IndexSet<Term, S>,
     last: (u32, u32, u32),
-    triple: &Triple,
+    triple: Triple,
 ) -> Result<(u32, u32, u32), AllocError>
-    ensures seen { IfOk result (λ places. SeesTriple nodes.old.keys nodes.new.keys predicates.old.keys predicates.new.keys places triple.now) }
+    ensures seen { IfOk result (λ places. SeesTriple nodes.old.keys nodes.new.keys predicates.old.keys predicates.new.keys places triple) }
     ensures adds { Adds nodes.old.keys nodes.new.keys }
     ensures stays { OnErr result (predicates.new.keys ≡ predicates.old.keys) }
 {
-    let subject = place_near(nodes, last.0, &triple.subject)?;
-    let object = place_in(nodes, &triple.object)?;
-    let predicate = place_near(predicates, last.1, &triple.predicate)?;
+    let subject = place_near(nodes, last.0, triple.subject)?;
+    let object = place_in(nodes, triple.object)?;
+    let predicate = place_near(predicates, last.1, triple.predicate)?;
     Ok((subject, predicate, object))
 }
 
@@ -30,28 +30,25 @@ pub(crate) fn see_triple<S: BuildHasher>(
 fn place_near<S: BuildHasher>(
     terms: &mut IndexSet<Term, S>,
     near: u32,
-    term: &Term,
+    term: Term,
 ) -> Result<u32, AllocError>
-    ensures placed { IfOk result (IsPlaced terms.old.keys terms.new.keys term.now) }
+    ensures placed { IfOk result (IsPlaced terms.old.keys terms.new.keys term) }
     ensures stays { OnErr result (terms.new.keys ≡ terms.old.keys) }
 {
     if let Some(found) = terms.get_index(near as usize)
-        && *found == *term
+        && *found == term
     {
         return Ok(near);
     }
     place_in(terms, term)
 }
 
-/// The place of a term. If it is not there, a copy is put at the end.
-fn place_in<S: BuildHasher>(terms: &mut IndexSet<Term, S>, term: &Term) -> Result<u32, AllocError>
-    ensures placed { IfOk result (IsPlaced terms.old.keys terms.new.keys term.now) }
+/// The place of a term. If it is not there, it is put at the end.
+fn place_in<S: BuildHasher>(terms: &mut IndexSet<Term, S>, term: Term) -> Result<u32, AllocError>
+    ensures placed { IfOk result (IsPlaced terms.old.keys terms.new.keys term) }
     ensures stays { OnErr result (terms.new.keys ≡ terms.old.keys) }
 {
-    if let Some(place) = terms.get_index_of(term) {
-        return number_from(place);
-    }
-    let place = number_from(terms.len())?;
-    terms.insert(term.clone()?)?;
-    Ok(place)
+    let _end = number_from(terms.len())?;
+    let (place, _) = terms.insert_full(term)?;
+    Ok(place as u32)
 }

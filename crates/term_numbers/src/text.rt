@@ -1,15 +1,14 @@
-//! Texts as keys of a set: hashed in one piece, and ordered by their bytes.
-ghost use Rattle.std.specs.Prelude.{◌≡◌, ◌==◌, [], ◌∷◌};
+//! Texts, ordered by their bytes.
+ghost use Rattle.std.specs.Prelude.{◌≡◌, ◌==◌};
 ghost use Rattle.std.proofs.Common.{rules};
 ghost use Rattle.std.specs.Cmp.{partial_order_from_own_ties};
-ghost use Rattle.std.specs.Cmp.Rules.{comparing, hashing};
+ghost use Rattle.std.specs.Cmp.Rules.{comparing};
 ghost use Rattle.std.specs.Cmp.Lexicographic.{pointwise, slice_cmp};
 ghost use Rattle.std.specs.Ordering.{nat_cmp, as_partial_cmp};
 ghost use Rattle.bm_term.specs.TermRef.{text_of};
 
 use bm_term::{Term, TermRef};
 use std::cmp::Ordering;
-use std::hash::{Hash, Hasher};
 use std::marker::Model;
 
 /// A canonical text that is borrowed from a term. It is seen as its bytes.
@@ -89,15 +88,5 @@ impl Ord for Text<'_> {
 
     fn cmp(&self, other: &Self) -> Ordering {
         self.bytes.cmp(&other.bytes)
-    }
-}
-
-impl Hash for Text<'_> {
-    ghost hash_input = { λ t. t ∷ [] };
-
-    ghost respects_eq = { Prim.search (hashing, rules) };
-
-    fn hash<H: Hasher>(&self, state: &mut H) {
-        state.write(self.bytes);
     }
 }

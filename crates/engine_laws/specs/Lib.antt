@@ -1,0 +1,3 @@
+pub mod WholeWay
+pub mod Terms
+pub mod Shown

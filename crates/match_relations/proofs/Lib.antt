@@ -1,0 +1,15 @@
+pub mod AcceptedLaws
+pub mod EntryLaws
+pub mod Examples
+pub mod FitsLaws
+pub mod LimitLaws
+pub mod MadeLaws
+pub mod MaskLaws
+pub mod MatchLaws
+pub mod MeetsLaws
+pub mod NameLaws
+pub mod NumberLaws
+pub mod PartLaws
+pub mod ShapeLaws
+pub mod SideLaws
+pub mod TreeLaws

@@ -1,0 +1,3 @@
+pub mod AcceptedTrees
+pub mod Matches
+pub mod steps

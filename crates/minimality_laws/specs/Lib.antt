@@ -1,0 +1,2 @@
+pub mod SimpleTree
+pub mod TakesPart
