@@ -10,3 +10,4 @@ pub mod Restoring
 pub mod Wanted
 pub mod Agreement
 pub mod Searching
+pub mod Ready
