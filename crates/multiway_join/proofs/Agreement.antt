@@ -23,10 +23,10 @@ filter_map-filter f test (x ∷ xs) none = elim (cases_Bool (test x)) as (λ _. 
 ]
 
 -- another cell is in the way: the variable is bound, and not to this
-abbrev IsBlocked : ℕ → ℕ → List ℕ → Type 0
+abbrev pub IsBlocked : ℕ → ℕ → List ℕ → Type 0
 IsBlocked w other row = ((get_or row w 0 == 0) ≡ false) × ((get_or row w 0 == other) ≡ false)
 
-blocked : (w other : ℕ) (row : List ℕ) → put_cell w other row ≡ None → IsBlocked w other row
+pub blocked : (w other : ℕ) (row : List ℕ) → put_cell w other row ≡ None → IsBlocked w other row
 blocked w other row none = elim (cases_Bool (get_or row w 0 == 0)) as (λ _. IsBlocked w other row) [
   | inl free ↦ absurd (let is : Some (set row w other) ≡ None = rw free at none in cc)
   | inr bound ↦ elim (cases_Bool (get_or row w 0 == other)) as (λ _. IsBlocked w other row) [

@@ -11,3 +11,5 @@ pub mod Wanted
 pub mod Agreement
 pub mod Searching
 pub mod Ready
+pub mod Bound
+pub mod Matched
