@@ -6,3 +6,10 @@ pub mod Nodes
 pub mod OneOrder
 pub mod Same
 pub mod Sound
+pub mod Restoring
+pub mod Wanted
+pub mod Agreement
+pub mod Searching
+pub mod Ready
+pub mod Bound
+pub mod Matched

@@ -1,2 +1,4 @@
 pub mod FlatRows
 pub mod JoinOrder
+pub mod Joined
+pub mod steps

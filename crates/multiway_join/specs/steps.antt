@@ -1,0 +1,4 @@
+pub mod Binding
+pub mod Search
+pub mod Order
+pub mod Cursor
