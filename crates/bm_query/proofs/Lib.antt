@@ -1,6 +1,4 @@
+pub mod EngineRows
 pub mod Examples
-pub mod GraphLaws
-pub mod Pushing
-pub mod TableLaws
+pub mod NamedRows
 pub mod TestQueries
-pub mod Values

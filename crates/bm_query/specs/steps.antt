@@ -1,2 +1,2 @@
--- Carries proofs only: the triples of an index, and the terms of rows.
-pub mod Naming
+-- Carries proofs only: rows of places, as names of the rows of a pattern.
+pub mod Named

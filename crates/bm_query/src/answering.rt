@@ -12,11 +12,12 @@ ghost use Rattle.bm_query.specs.Faults.{fault_of};
 ghost use Rattle.bm_query.specs.declared.fault.AnswerFault.TheVariants.{Memory};
 
 use crate::fault::AnswerFault;
-use crate::graph::graph;
-use crate::rows::borrowed_rows;
-use alg_model::{Query, eval_plain};
+use crate::engine::best_rows;
+use crate::rows::named_rows;
+use alg_model::Query;
 use answer_rows::{TextRows, project_sort};
 use index_file::Index;
+use pattern_tree::tree_of;
 use std::alloc::{AllocError, Global};
 use well_designed::refusal_of;
 
@@ -47,16 +48,19 @@ pub fn answer<'a>(
     }
 }
 
-/// The answers, whatever the pattern.
+/// The answers of a query whose pattern is accepted.
 fn rows_of<'a>(alloc: Global, index: &Index<'a>, query: &Query) -> Result<TextRows<'a>, AllocError>
-    requires { KeepsLimits query.now }
+    requires limits { KeepsLimits query.now }
+    requires accepted { IsAccepted (algebra_of query.now.pattern) }
     ensures rows { (graph : List Triple) → NumbersGraph graph index.now.numbering →
         IfOk result (λ answers. answers.rows ≡ answers_of query.now graph) }
     ensures width { IfOk result (λ answers. answers.width ≡ length query.now.columns) }
 {
+    index.counts();
     let width = query.names.len() as u8;
-    let graph = graph(alloc, index)?;
-    let rows = eval_plain(alloc, &query.pattern, width, &graph)?;
-    let rows = borrowed_rows(alloc, index, &rows, width)?;
-    project_sort(alloc, rows, query)
+    let tree = tree_of(alloc, &query.pattern)?;
+    let rows = best_rows(alloc, index, &tree, width)?;
+    let named = named_rows(alloc, index, &rows)?;
+    drop(rows);
+    project_sort(alloc, named, query)
 }

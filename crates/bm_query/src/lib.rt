@@ -5,10 +5,9 @@
 #![tactic(auto)]
 
 mod answering;
+mod engine;
 mod fault;
-mod graph;
 mod rows;
-mod terms;
 #[cfg(test)]
 mod tests;
 

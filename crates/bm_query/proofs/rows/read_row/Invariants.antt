@@ -1,5 +1,8 @@
-use Rattle.std.proofs.Common.{◌≡◌, [], take, slice_index_or}
+use Rattle.std.proofs.Common.{◌≡◌, take}
+use Rattle.engine_laws.specs.Terms.{text_at}
+use Rattle.naming_laws.specs.Naming.{named_row}
+use Rattle.pattern_tree.specs.FlatTable.{row_of}
 use Rattle.bm_query.proofs.rows.read_row.Given as goal
 
-abbrev pub invariant-loop-column : goal.invariant-loop-column
-invariant-loop-column l = l.cells.items ≡ take l.column (slice_index_or l.list l.row [])
+abbrev pub invariant-loop-number : goal.invariant-loop-number
+invariant-loop-number l = ?
