@@ -1,16 +1,15 @@
 -- The steps of the engine over an index: their rows name the rows of the pattern over its graph.
-use Rattle.std.proofs.Common.{◌≡◌, ◌↔◌, ℕ, ◌≤◌, ◌<◌, ◌++◌, Bool, List, [], ◌∷◌, length, map, All, Contains, append-nil, refl, sym, ap, ◌∙◌, subst, arith}
-use Rattle.std.specs.Prelude.{IsPermutation, slice_get}
+use Rattle.std.proofs.Common.{◌≡◌, ◌↔◌, ℕ, ◌≤◌, ◌<◌, Bool, List, [], ◌∷◌, All, Contains, append-nil, refl, sym, ap, ◌∙◌, subst, arith}
 use Rattle.std.proofs.lemmas.List.Elements.{All-contains}
 use Rattle.bm_term.specs.declared.triple.Triple.{Triple}
 use Rattle.alg_model.specs.declared.pattern.TriplePat.{TriplePat}
-use Rattle.alg_model.specs.Eval.{as_terms, eval}
+use Rattle.alg_model.specs.Eval.{as_terms}
 use Rattle.alg_model.specs.Limits.{max_variables, PatternKeepsLimits}
 use Rattle.alg_model.specs.Pattern.{Algebra, Bgp, HasVarsBelow, triple_vars, vars_of}
-use Rattle.alg_model.specs.Row.{Row}
 use Rattle.alg_model.specs.WellDesigned.{IsWellDesigned}
-use Rattle.engine_laws.specs.Shown.{ShowsMatches, ShowsTerms, TellsShown, HasEntriesOf}
-use Rattle.engine_laws.specs.Terms.{text_at, texts_at, stands_in, values_of}
+use Rattle.alg_model.proofs.Lists.{source-flat_map}
+use Rattle.engine_laws.specs.Shown.{ShowsMatches, TellsShown, HasEntriesOf}
+use Rattle.engine_laws.specs.Terms.{texts_at, stands_in, values_of}
 use Rattle.engine_laws.specs.WholeWay.{AreFlat}
 use Rattle.engine_laws.proofs.Engine.{engine_bag, engine_texts, texts_from, matches_from, HavePlaces}
 use Rattle.engine_laws.proofs.ShownTerms.{left_terms, reading_same}
@@ -28,10 +27,10 @@ use Rattle.pattern_tree.specs.BestRows.{AreBest}
 use Rattle.pattern_tree.specs.FlatTable.{FlatTable}
 use Rattle.pattern_tree.specs.PatternTree.{IsPatternTree}
 use Rattle.pattern_tree.specs.Solution.{all_matches}
-use Rattle.pattern_tree.specs.Standing.{StandsAt}
+use Rattle.pattern_tree.specs.Standing.{StandsAt, OccursAt}
 use Rattle.pattern_tree.specs.Tree.{TreeNode, tree_of}
 use Rattle.pruning_laws.specs.Shown.{shown, AreLeftOf}
-use Rattle.term_numbers.specs.Numbering.{Terms, Numbering, term_table}
+use Rattle.term_numbers.specs.Numbering.{Terms, Numbering}
 use Rattle.tree_relations.specs.declared.prepared.Prepared.{Prepared}
 use Rattle.tree_relations.specs.Fits.{FitsTree}
 use Rattle.tree_relations.specs.Readings.{NumberTriple, as_numbers, lists_left, IsReading}
@@ -39,7 +38,7 @@ use Rattle.bm_query.specs.steps.Named.{IsBestOf}
 use Rattle.bm_query.proofs.NamedRows.{named_text}
 
 -- a pattern over few variables is one over the most that there can be
-below_most : (n : ℕ) (pattern : Algebra) → n ≤ max_variables → PatternKeepsLimits n pattern → PatternKeepsLimits max_variables pattern
+pub below_most : (n : ℕ) (pattern : Algebra) → n ≤ max_variables → PatternKeepsLimits n pattern → PatternKeepsLimits max_variables pattern
 below_most n pattern few keeps = record {
   vars_below = All-members (λ v. v < max_variables) (vars_of pattern) (λ v at. let low = All-contains (λ v. v < n) (vars_of pattern) v keeps.vars_below at in omega (arith, low, few));
   few_optional = keeps.few_optional;
@@ -47,15 +46,33 @@ below_most n pattern few keeps = record {
   numbered = keeps.numbered;
 }
 
+-- a variable that occurs in the tree is below n
+pub occurs_below : (n : ℕ) (pattern : Algebra) → HasVarsBelow n pattern → (k var : ℕ) → OccursAt (tree_of pattern) k var → var < n
+occurs_below n pattern vars_below k var occurs =
+    let from = source-flat_map triple_vars occurs.node.patterns var occurs.among in
+    tree_below n pattern vars_below k from.0 var (record { node = occurs.node; stands = occurs.stands; among = from.1 }) from.2
+
 -- ---- what is prepared, and what is left of it
 
-module _ (graph : List Triple) (numbering : Numbering) (n : ℕ) (pattern : Algebra) (p pruned : Prepared)
+-- what the steps of the engine leave for a tree
+pub record AreSteps (numbering : Numbering) (n : ℕ) (p pruned : Prepared) (table : FlatTable) (tree : List TreeNode) : Type 0 where
+  pub fits : FitsTree tree p
+  pub has : HasMatches numbering tree p
+  pub accepted : IsAcceptedTree tree
+  pub layout : HasLayoutOf p pruned
+  pub prunes : IsPatternTree tree → (stands_for : ℕ → List ℕ → Bool) (triple : ℕ → ℕ × ℕ → NumberTriple) → IsReading p triple →
+      AreLeftOf (as_numbers stands_for) tree triple (lists_left p) (lists_left pruned)
+  pub joined : AreFlatRows pruned tree n table
+
+module _ (graph : List Triple) (numbering : Numbering) (n : ℕ) (pattern : Algebra) (p pruned : Prepared) (table : FlatTable)
     (numbers : NumbersGraph graph numbering) (well : IsWellDesigned pattern) (keeps : PatternKeepsLimits n pattern) (few : n ≤ max_variables)
-    (fits : FitsTree (tree_of pattern) p) (has : HasMatches numbering (tree_of pattern) p) (accepted : IsAcceptedTree (tree_of pattern))
-    (layout : HasLayoutOf p pruned)
-    (prunes : IsPatternTree (tree_of pattern) → (stands_for : ℕ → List ℕ → Bool) (triple : ℕ → ℕ × ℕ → NumberTriple) → IsReading p triple →
-    AreLeftOf (as_numbers stands_for) (tree_of pattern) triple (lists_left p) (lists_left pruned))
-    (table : FlatTable) (joined : AreFlatRows pruned (tree_of pattern) n table) where
+    (steps : AreSteps numbering n p pruned table (tree_of pattern)) where
+  abbrev has : HasMatches numbering (tree_of pattern) p
+  has = steps.has
+
+  abbrev joined : AreFlatRows pruned (tree_of pattern) n table
+  joined = steps.joined
+
   abbrev terms : Terms
   terms = numbering.terms
 
@@ -69,9 +86,9 @@ module _ (graph : List Triple) (numbering : Numbering) (n : ℕ) (pattern : Alge
   -- the values of a triple are the places of its terms, part by part
   shows : ShowsMatches terms graph n tree p has.triple
   shows = record {
-    fits = fits;
+    fits = steps.fits;
     counts = record { shared = has.counts.shared; subjects = has.counts.subjects; objects = has.counts.objects; predicates = has.counts.predicates };
-    no_cross_places = accepted.no_cross_place;
+    no_cross_places = steps.accepted.no_cross_place;
     reading = has.reading;
     texts = texts_from terms graph n tree p has.triple (AreValuesOf terms) places values has.named matches;
     matches = matches_from terms graph n tree p has.triple (AreValuesOf terms) places values has.named matches;
@@ -104,15 +121,15 @@ module _ (graph : List Triple) (numbering : Numbering) (n : ℕ) (pattern : Alge
   }
 
   left : AreLeftOf (values_of terms) tree has.triple (lists_left p) (lists_left pruned)
-  left = prunes (record { pattern = pattern; is = refl; well_designed = well; keeps_limits = below_most n pattern few keeps }) (stands_in terms) has.triple has.reading
+  left = steps.prunes (record { pattern = pattern; is = refl; well_designed = well; keeps_limits = below_most n pattern few keeps }) (stands_in terms) has.triple has.reading
 
   entries : HasEntriesOf pruned p
   entries = record {
-    entries = ap (λ (p : Prepared). p.entries) layout.same;
-    shared = ap (λ (p : Prepared). p.shared) layout.same;
-    subjects = ap (λ (p : Prepared). p.subjects) layout.same;
-    objects = ap (λ (p : Prepared). p.objects) layout.same;
-    predicates = ap (λ (p : Prepared). p.predicates) layout.same;
+    entries = ap (λ (p : Prepared). p.entries) steps.layout.same;
+    shared = ap (λ (p : Prepared). p.shared) steps.layout.same;
+    subjects = ap (λ (p : Prepared). p.subjects) steps.layout.same;
+    objects = ap (λ (p : Prepared). p.objects) steps.layout.same;
+    predicates = ap (λ (p : Prepared). p.predicates) steps.layout.same;
   }
 
   rows_are : table.rows ≡ flat_rows_of (values_of terms) n (shown has.triple (lists_left pruned)) joined.ordered

@@ -11,8 +11,8 @@ ghost use Rattle.well_designed.specs.declared.refusals.Refusal.{Refusal};
 ghost use Rattle.bm_query.specs.Faults.{fault_of};
 ghost use Rattle.bm_query.specs.declared.fault.AnswerFault.TheVariants.{Memory};
 
-use crate::fault::AnswerFault;
 use crate::engine::best_rows;
+use crate::fault::AnswerFault;
 use crate::rows::named_rows;
 use alg_model::Query;
 use answer_rows::{TextRows, project_sort};
