@@ -19,29 +19,25 @@ from_node-tried-requires t c =
     let are = c.in-Some.ensures.cases.0 in
     let node = first_node P c.args.nodes.now c.in-Some.nodes.now c.in-Some.node.now are c.requires.nodes in
     let work = work_split c.args.nodes.now c.in-Some.nodes.now c.in-Some.node.now c.deref.result.now are c.deref.ensures.value in
-    (
-      omega (arith, c.decreases, work),
-      c.requires.together,
-      omega (arith, c.requires.few, c.in-Some.ensures.cases.1),
-      c.requires.width,
-      c.requires.narrow,
-      subst (λ (patterns : List JoinPattern). All (CanJoin c.args.prepared.now (length c.args.row.now)) (patterns_in patterns)) (sym c.deref.ensures.value) node.patterns,
-      rest_nodes P c.args.nodes.now c.in-Some.nodes.now c.in-Some.node.now are c.requires.nodes,
-    )
+    (omega (arith, c.decreases, work),
+    (c.requires.together,
+    (omega (arith, c.requires.few, c.in-Some.ensures.cases.1),
+    (c.requires.width,
+    (c.requires.narrow,
+    (subst (λ (patterns : List JoinPattern). All (CanJoin c.args.prepared.now (length c.args.row.now)) (patterns_in patterns)) (sym c.deref.ensures.value) node.patterns,
+    rest_nodes P c.args.nodes.now c.in-Some.nodes.now c.in-Some.node.now are c.requires.nodes))))))
 
 pub from_node-from_node-requires : goal.from_node-from_node-requires
 from_node-from_node-requires t c =
     let are = c.in-Some.ensures.cases.0 in
     let work = work_split c.args.nodes.now c.in-Some.nodes.now c.in-Some.node.now c.in-Some.node.now.patterns.items are refl in
-    (
-      omega (arith, c.decreases, work),
-      c.requires.together,
-      omega (arith, c.requires.few, c.in-Some.ensures.cases.1),
-      omega arith,
-      c.requires.width,
-      c.requires.narrow,
-      rest_nodes (CanJoinNode c.args.prepared.now (length c.args.row.now)) c.args.nodes.now c.in-Some.nodes.now c.in-Some.node.now are c.requires.nodes,
-    )
+    (omega (arith, c.decreases, work),
+    (c.requires.together,
+    (omega (arith, c.requires.few, c.in-Some.ensures.cases.1),
+    (omega arith,
+    (c.requires.width,
+    (c.requires.narrow,
+    rest_nodes (CanJoinNode c.args.prepared.now (length c.args.row.now)) c.args.nodes.now c.in-Some.nodes.now c.in-Some.node.now are c.requires.nodes))))))
 
 pub from_node-returns-then-parent_is_matched-clause-listed : goal.from_node-returns-then-parent_is_matched-clause-listed
 from_node-returns-then-parent_is_matched-clause-listed t c =
@@ -82,15 +78,13 @@ within-with_pairs-requires t c =
     let P = CanJoin c.args.prepared.now (length c.args.row.now) in
     let are = c.in-Some.ensures.cases.0 in
     let can = first_pattern P c.args.patterns.now c.in-Some.patterns.now c.in-Some.pattern.now are c.requires.patterns in
-    (
-      omega (arith, c.decreases, c.in-Some.ensures.cases.1),
-      c.requires.together,
-      c.requires.few,
-      c.requires.width,
-      c.requires.same_width,
-      c.requires.narrow,
-      is_ready c.args.prepared.now (length c.args.row.now) c.in-Some.pattern.now.pattern.now c.get-relation.result.now c.requires.together can
+    (omega (arith, c.decreases, c.in-Some.ensures.cases.1),
+    (c.requires.together,
+    (c.requires.few,
+    (c.requires.width,
+    (c.requires.same_width,
+    (c.requires.narrow,
+    (is_ready c.args.prepared.now (length c.args.row.now) c.in-Some.pattern.now.pattern.now c.get-relation.result.now c.requires.together can
       (subst (λ (i : ℕ). slice_get c.args.prepared.now.entries i ≡ Some c.get-relation.result.now) c.place_of.ensures c.get-relation.ensures),
-      rest_patterns P c.args.patterns.now c.in-Some.patterns.now c.in-Some.pattern.now are c.requires.patterns,
-      c.requires.nodes,
-    )
+    (rest_patterns P c.args.patterns.now c.in-Some.patterns.now c.in-Some.pattern.now are c.requires.patterns,
+    c.requires.nodes))))))))
