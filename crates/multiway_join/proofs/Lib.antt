@@ -13,3 +13,5 @@ pub mod Searching
 pub mod Ready
 pub mod Bound
 pub mod Matched
+pub mod OrderLaws
+pub mod WordOrder
