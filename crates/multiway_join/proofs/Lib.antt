@@ -15,3 +15,4 @@ pub mod Bound
 pub mod Matched
 pub mod OrderLaws
 pub mod WordOrder
+pub mod Starting
