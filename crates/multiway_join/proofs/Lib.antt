@@ -16,3 +16,5 @@ pub mod Matched
 pub mod OrderLaws
 pub mod WordOrder
 pub mod Starting
+pub mod CellRows
+pub mod JoinedRows

@@ -5,7 +5,8 @@ use Rattle.pattern_tree.specs.Tree.{TreeNode}
 use Rattle.pattern_tree.proofs.TreeSizes.{few_nodes}
 use Rattle.multiway_join.specs.declared.order.JoinNode.{JoinNode}
 use Rattle.multiway_join.specs.Joined.{count_left}
-use Rattle.multiway_join.specs.steps.Search.{as_node, CanJoinNode}
+use Rattle.multiway_join.specs.steps.Search.{Lists, as_node, flat_cells, CanJoinNode}
+use Rattle.multiway_join.proofs.JoinedRows.{are_flat_rows}
 use Rattle.multiway_join.proofs.Starting.{can_join, as_many, ordered_can}
 use Rattle.multiway_join.proofs.join.flat_rows.Goals as goal
 
@@ -29,4 +30,13 @@ join_nodes-requires-clause-nodes c =
     (can_join c.args.tree.now c.nodes.ensures.pattern p c.requires.fits c.args.vars c.requires.below))
 
 pub returns : goal.returns
-returns c = ?
+returns c = record {
+  rows =
+      let p = c.args.prepared.now in
+      let tree = c.args.tree.now in
+      let nodes = c.in_ok-nodes.nodes.items in
+      let can = ordered_can (count_left p) p c.args.vars [] tree (map as_node nodes) c.in_ok-nodes.ensures (can_join tree c.nodes.ensures.pattern p c.requires.fits c.args.vars c.requires.below) in
+      let listed : Lists (flat_cells p (map as_node nodes) c.args.vars) c.new-rows.result c.join_nodes.new.rows =
+      subst (λ (nodes : List JoinNode). Lists (flat_cells p (map as_node nodes) c.args.vars) c.new-rows.result c.join_nodes.new.rows) c.deref.ensures.value c.in_ok-join_nodes.ensures in
+      are_flat_rows p c.args.vars tree (map as_node nodes) c.requires.fits.together c.in_ok-nodes.ensures can c.new-rows.result c.join_nodes.new.rows c.new-rows.ensures.rows c.new-rows.ensures.vars listed;
+}
