@@ -26,7 +26,7 @@ pub binding_cell : (row : List ℕ) (k : ℕ) → binding (row_of row) k ≡ cel
 binding_cell row k = get_or-map cell_of row k 0
 
 cell_of_value : (v : ℕ) → cell_of (v + 1) ≡ Some v
-cell_of_value v = ap cell_of (add-one {v})
+cell_of_value v = (let e : v + 1 ≡ suc v = omega arith in ap cell_of e)
 
 bound_nothing : (gives : ℕ → ℕ → Type 0) (row : Row ℕ) → ((k v : ℕ) → ¬ gives k v) → IsBoundBy gives row row
 bound_nothing gives row none = record { width = refl; given = λ k v is. absurd (none k v is); before = λ k v is. is; no_more = λ k is never. is }
@@ -120,7 +120,7 @@ module _ (p : Prepared) where
   gives_or_not : (side : Option SidePlace) (n k : ℕ) → ((v : ℕ) × SideGives p side n k v) ⊎ ((v : ℕ) → ¬ SideGives p side n k v)
   gives_or_not None n k = inr (λ v gives. gives)
   gives_or_not (Some place) n k = elim (cases_eq place.var.0 k) as (λ _. ((v : ℕ) × SideGives p (Some place) n k v) ⊎ ((v : ℕ) → ¬ SideGives p (Some place) n k v)) [
-    | inl same ↦ inl (value_of p place.kind n, same, refl)
+    | inl same ↦ inl (value_of p place.kind n, (same, refl))
     | inr other ↦ inr (λ v gives. other gives.0)
   ]
 

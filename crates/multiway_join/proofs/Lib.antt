@@ -13,3 +13,8 @@ pub mod Searching
 pub mod Ready
 pub mod Bound
 pub mod Matched
+pub mod OrderLaws
+pub mod WordOrder
+pub mod Starting
+pub mod CellRows
+pub mod JoinedRows

@@ -16,7 +16,7 @@ use Rattle.alg_model.specs.Row.{Row, binding, both_rows, merged}
 use Rattle.alg_model.specs.Solution.{Becomes, Makes, TellsValues}
 use Rattle.alg_model.proofs.BasicPatterns.{rows_of_match}
 use Rattle.alg_model.proofs.Cells.{cases_Option, value_from_IsSome, IsSome-from_value, IsUnion, union_from_merged, merged_from_union}
-use Rattle.alg_model.proofs.Joins.{cut, width-cut, cut_inside, cut_value, cut_binds, IsRowOf}
+use Rattle.alg_model.proofs.Joins.{cut, width-cut, cut_inside, cut_value, cut_binds, IsRowOf, AreRowsOf}
 use Rattle.alg_model.proofs.Lists.{Contains-option, option-Contains}
 use Rattle.alg_model.proofs.Width.{HasWidth}
 use Rattle.pattern_tree.specs.FlatTable.{cell_of, row_of}
@@ -118,24 +118,24 @@ module _ (p : Prepared) (n : ℕ) (stands_for : ℕ → List ℕ → Bool) (patt
       long = is.width ∙ width
 
       -- the match: what the row with the pair binds of the triple pattern's variables
-      match : Row ℕ
-      match = cut n (triple_vars pattern) q
+      abbrev own_match : Row ℕ
+      own_match = cut n (triple_vars pattern) q
 
-      value_of_match : (kind : PlaceKind) (k : ℕ) → IsVar (place_at kind pattern) k → binding match k ≡ Some (part_at kind t)
+      value_of_match : (kind : PlaceKind) (k : ℕ) → IsVar (place_at kind pattern) k → binding own_match k ≡ Some (part_at kind t)
       value_of_match kind k var = cut_inside n (triple_vars pattern) q long k (var_of_triple kind pattern k var) ∙ is.given k (part_at kind t) (given_at kind k var)
 
-      is_match : Match match
+      is_match : Match own_match
       is_match = record {
         width = width-cut n (triple_vars pattern) q long;
         binds = cut_binds n (triple_vars pattern) q long (λ k at. (let place = place_of_var pattern k at in IsSome-from_value (binding q k) (part_at place.0 t) (is.given k (part_at place.0 t) (given_at place.0 k place.1))));
         holds = record {
-          subject = value_becomes match pattern.subject t.subject (value_of_match Subject) (terms Subject);
-          predicate = value_becomes match pattern.predicate t.predicate (value_of_match Predicate) (terms Predicate);
-          object = value_becomes match pattern.object t.object (value_of_match Object) (terms Object);
+          subject = value_becomes own_match pattern.subject t.subject (value_of_match Subject) (terms Subject);
+          predicate = value_becomes own_match pattern.predicate t.predicate (value_of_match Predicate) (terms Predicate);
+          object = value_becomes own_match pattern.object t.object (value_of_match Object) (terms Object);
         };
       }
 
-      union_of_match : IsUnion row match q
+      union_of_match : IsUnion row own_match q
       union_of_match = record {
         left = is.before;
         right = λ k v bound. (cut_value n (triple_vars pattern) q long k v bound).1;
@@ -149,6 +149,7 @@ module _ (p : Prepared) (n : ℕ) (stands_for : ℕ → List ℕ → Bool) (patt
       where
         width : HasWidth n (row_of row)
         width = length-map row cell_of ∙ wide
+        are : AreRowsOf n (triple_vars pattern) (λ row. Makes (as_numbers stands_for) row pattern t) (option_to_list (match_of (as_numbers stands_for) n pattern t))
         are = rows_of_match (as_numbers stands_for) (tells_numbers stands_for) n pattern t below
         -- no row where the pair agrees with none
         none : bind_pair p e row pair ≡ None → (o : Option (Row ℕ)) → match_of (as_numbers stands_for) n pattern t ≡ o → both_rows ◌==◌ (Some (row_of row)) o ≡ None
@@ -164,7 +165,7 @@ module _ (p : Prepared) (n : ℕ) (stands_for : ℕ → List ℕ → Bool) (patt
         by None is = sym (none is (match_of (as_numbers stands_for) n pattern t) refl)
         by (Some q) is =
             let bound = pair_bound p e pair row first_cell second_cell q is in
-            let s = match (row_of row) (row_of q) width bound in
+            let s = own_match (row_of row) (row_of q) width bound in
             let own = is_match (row_of row) (row_of q) width bound in
             let found : match_of (as_numbers stands_for) n pattern t ≡ Some s = option-Contains (match_of (as_numbers stands_for) n pattern t) s (are.complete s own) in
             let union = union_of_match (row_of row) (row_of q) width bound in
@@ -178,16 +179,16 @@ one_more : (o : Option (List ℕ)) (m : Option (Row ℕ)) (row : Row ℕ) (xs : 
     map row_of (cons_option o xs) ≡ filter_map (merged ◌==◌ row) (cons_option m ys)
 one_more None None row xs ys is rest = rest
 one_more (Some q) None row xs ys is rest = absurd (none-some (row_of q) (sym is))
-one_more None (Some s) row xs ys is rest = ap (λ (o : Option (Row ℕ)). cons_option o (filter_map (merged ◌==◌ row) ys)) is ∙ rest
+one_more None (Some s) row xs ys is rest = rest ∙ ap (λ (o : Option (Row ℕ)). cons_option o (filter_map (merged ◌==◌ row) ys)) is
 one_more (Some q) (Some s) row xs ys is rest = ap (λ (rows : List (Row ℕ)). row_of q ∷ rows) rest ∙ ap (λ (o : Option (Row ℕ)). cons_option o (filter_map (merged ◌==◌ row) ys)) is
 
-same_lists : (bind : ℕ × ℕ → Option (List ℕ)) (match : NumberTriple → Option (Row ℕ)) (triple : ℕ × ℕ → NumberTriple) (row : Row ℕ) (pairs : List (ℕ × ℕ)) →
-    ((pair : ℕ × ℕ) → Contains pairs pair → option_map row_of (bind pair) ≡ both_rows ◌==◌ (Some row) (match (triple pair))) →
-    map row_of (filter_map bind pairs) ≡ filter_map (merged ◌==◌ row) (filter_map match (map triple pairs))
-same_lists bind match triple row [] same = refl
-same_lists bind match triple row (pair ∷ pairs) same =
-    one_more (bind pair) (match (triple pair)) row (filter_map bind pairs) (filter_map match (map triple pairs)) (same pair (Contains-head pair pairs))
-    (same_lists bind match triple row pairs (λ other at. same other (Contains-tail pair pairs other at)))
+same_lists : (bind : ℕ × ℕ → Option (List ℕ)) (matches : NumberTriple → Option (Row ℕ)) (triple : ℕ × ℕ → NumberTriple) (row : Row ℕ) (pairs : List (ℕ × ℕ)) →
+    ((pair : ℕ × ℕ) → Contains pairs pair → option_map row_of (bind pair) ≡ both_rows ◌==◌ (Some row) (matches (triple pair))) →
+    map row_of (filter_map bind pairs) ≡ filter_map (merged ◌==◌ row) (filter_map matches (map triple pairs))
+same_lists bind matches triple row [] same = refl
+same_lists bind matches triple row (pair ∷ pairs) same =
+    one_more (bind pair) (matches (triple pair)) row (filter_map bind pairs) (filter_map matches (map triple pairs)) (same pair (Contains-head pair pairs))
+    (same_lists bind matches triple row pairs (λ other at. same other (Contains-tail pair pairs other at)))
 
 -- the terms of a triple pattern, which its triples have
 abbrev pub HasTerms : (ℕ → List ℕ → Bool) → (ℕ → ℕ × ℕ → NumberTriple) → Prepared → TriplePat → Type 0

@@ -1,6 +1,7 @@
 -- A triple pattern that can be joined has a relation that can be walked.
-use Rattle.std.proofs.Common.{◌≡◌, ◌⊎◌, ℕ, ◌<◌, inl, inr, List, [], ◌∷◌, Contains, Option, Some, None, refl, sym, ◌∙◌, subst}
+use Rattle.std.proofs.Common.{◌≡◌, ◌⊎◌, ℕ, ◌<◌, ◌++◌, inl, inr, List, [], ◌∷◌, Contains, Option, Some, None, refl, sym, ◌∙◌, subst}
 use Rattle.std.specs.Prelude.{slice_get}
+use Rattle.std.specs.List.{flat_map}
 use Rattle.std.proofs.lemmas.List.Elements.{All-contains, Contains-get_or, Contains-append_left, Contains-append_right}
 use Rattle.std.proofs.lemmas.Option.{slice_get_within, get_or_from_slice_get}
 use Rattle.alg_model.proofs.Lists.{Contains-flat_map}
@@ -32,16 +33,22 @@ var_at_place (places.Var v) var is = subst (λ (k : ℕ). Contains (v.0 ∷ []) 
 var_at_place (places.Term text) var is = absurd is
 
 pub var_of_triple : (kind : PlaceKind) (pattern : TriplePat) (var : ℕ) → IsVar (place_at kind pattern) var → Contains (triple_vars pattern) var
-var_of_triple Subject pattern var is = Contains-append_left (place_vars pattern.subject) _ var (var_at_place pattern.subject var is)
-var_of_triple Predicate pattern var is = Contains-append_right (place_vars pattern.subject) _ var (Contains-append_left (place_vars pattern.predicate) _ var (var_at_place pattern.predicate var is))
-var_of_triple Object pattern var is = Contains-append_right (place_vars pattern.subject) _ var (Contains-append_right (place_vars pattern.predicate) _ var (var_at_place pattern.object var is))
+var_of_triple Subject pattern var is =
+    let s = place_vars pattern.subject in
+    let p = place_vars pattern.predicate in
+    Contains-append_left (s ++ p) (place_vars pattern.object) var (Contains-append_left s p var (var_at_place pattern.subject var is))
+var_of_triple Predicate pattern var is =
+    let s = place_vars pattern.subject in
+    let p = place_vars pattern.predicate in
+    Contains-append_left (s ++ p) (place_vars pattern.object) var (Contains-append_right s p var (var_at_place pattern.predicate var is))
+var_of_triple Object pattern var is = Contains-append_right (place_vars pattern.subject ++ place_vars pattern.predicate) (place_vars pattern.object) var (var_at_place pattern.object var is)
 
 module _ (p : Prepared) (fits : FitsTogether p) (i : ℕ) (e : Entry) (at : slice_get p.entries i ≡ Some e) where
   there : Contains p.entries e
   there = subst (Contains p.entries) (get_or_from_slice_get p.entries i e e at) (Contains-get_or p.entries i e (slice_get_within p.entries i e at))
 
   usable : (m : Stretch) → Contains (e.rel.first ∷ e.rel.second ∷ []) m → IsUsable p.pool m
-  usable m own = All-contains (IsUsable p.pool) (masks_of p) m fits.usable (Contains-append_right p.work _ m (Contains-flat_map (λ (e : Entry). e.rel.first ∷ e.rel.second ∷ []) p.entries e m there own))
+  usable m own = All-contains (IsUsable p.pool) (masks_of p) m fits.usable (Contains-append_right p.work (flat_map (λ (e : Entry). e.rel.first ∷ e.rel.second ∷ []) p.entries) m (Contains-flat_map (λ (e : Entry). e.rel.first ∷ e.rel.second ∷ []) p.entries e m there own))
 
   pub first_usable : IsUsable p.pool e.rel.first
   first_usable = usable e.rel.first (Contains-head e.rel.first (e.rel.second ∷ []))

@@ -1,5 +1,5 @@
 -- The search: how much work is left, and the rows that are listed one after the other.
-use Rattle.std.proofs.Common.{◌≡◌, ℕ, ◌+◌, ◌*◌, ◌++◌, Bool, true, false, List, [], ◌∷◌, map, length, flat_map, All, Contains, Option, Some, None, refl, sym, ◌∙◌, ap, subst, append-nil}
+use Rattle.std.proofs.Common.{◌≡◌, ℕ, zero, suc, ◌<◌, arith, if◌then◌else◌, ◌+◌, ◌*◌, ◌++◌, Bool, true, false, List, [], ◌∷◌, map, length, flat_map, All, Contains, Option, Some, None, refl, sym, ◌∙◌, ap, subst, append-nil}
 use Rattle.std.proofs.lemmas.Grind.{flat_map-append}
 use Rattle.std.proofs.lemmas.List.Elements.{All-head, All-tail}
 use Rattle.std.proofs.lemmas.List.{map-append, append_assoc}
@@ -8,11 +8,12 @@ use Rattle.std.specs.List.{cons_option, filter_map}
 use Rattle.pattern_tree.specs.FlatTable.{FlatTable, row_of}
 use Rattle.alg_model.specs.declared.pattern.TriplePat.{TriplePat}
 use Rattle.pattern_tree.specs.Tree.{TreeNode}
+use Rattle.tree_relations.specs.declared.prepared.Prepared.{Prepared}
 use Rattle.multiway_join.specs.declared.order.JoinNode.{JoinNode}
 use Rattle.multiway_join.specs.declared.order.JoinPattern.{JoinPattern}
 use Rattle.multiway_join.specs.declared.cursor.Agreeing.{Agreeing}
 use Rattle.multiway_join.specs.steps.Cursor.{coming}
-use Rattle.multiway_join.specs.steps.Search.{Lists, ListsPair, ListsAll, as_node, patterns_in}
+use Rattle.multiway_join.specs.steps.Search.{Lists, ListsPair, ListsAll, as_node, patterns_in, holds_parent, cells_from, cells_within}
 
 -- how many steps deep the search of some nodes goes at most
 abbrev pub work_of : List JoinNode → ℕ
@@ -134,3 +135,17 @@ module _ (P : TriplePat → Type 0) (patterns rest : List JoinPattern) (pattern 
 
   pub rest_patterns : All P (patterns_in rest)
   rest_patterns = All-tail P pattern.pattern.now (patterns_in rest) all_split_patterns
+
+-- ---- the first node's part in the whole
+
+pub work_split : (nodes rest : List JoinNode) (node : JoinNode) (patterns : List JoinPattern) → nodes ≡ node ∷ rest → patterns ≡ node.patterns.items → work_of nodes ≡ 5 + 3 * length patterns + work_of rest
+work_split nodes rest node patterns are is = ap work_of are ∙ ap (λ (ps : List JoinPattern). 5 + 3 * length ps + work_of rest) (sym is)
+
+-- where its parent is matched, the node is tried
+pub tried_cells : (p : Prepared) (nodes rest : List JoinNode) (node : JoinNode) (patterns : List JoinPattern) (k matched : ℕ) (row : List ℕ) → 0 < k → nodes ≡ node ∷ rest → patterns ≡ node.patterns.items → true ≡ holds_parent matched node.parent →
+    cells_within p (patterns_in patterns) (map as_node rest) k matched row row ≡ cells_from p (map as_node nodes) k matched row
+tried_cells p nodes rest node patterns zero matched row later are is holds = absurd (omega arith)
+tried_cells p nodes rest node patterns (suc k) matched row later are is holds =
+    ap (λ (ps : List JoinPattern). cells_within p (patterns_in ps) (map as_node rest) (suc k) matched row row) is
+    ∙ ap (λ (b : Bool). if b then cells_within p (patterns_in node.patterns.items) (map as_node rest) (suc k) matched row row else cells_from p (map as_node rest) (suc (suc k)) matched row) holds
+    ∙ ap (λ (ns : List JoinNode). cells_from p (map as_node ns) (suc k) matched row) (sym are)

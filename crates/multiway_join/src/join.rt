@@ -1,5 +1,5 @@
 //! The flat rows of a tree, over the relations that are prepared for it.
-ghost use Rattle.std.specs.Prelude.{◌≡◌, ℕ, ◌+◌, ◌<◌, ◌≤◌, [], ◌∷◌, All, map, length, IfOk, OnOk};
+ghost use Rattle.std.specs.Prelude.{◌≡◌, ℕ, ◌+◌, ◌<◌, ◌≤◌, [], ◌∷◌, All, map, length, replicate, IfOk, OnOk};
 ghost use Rattle.alg_model.specs.Limits.{max_variables};
 ghost use Rattle.pattern_tree.specs.Standing.{OccursAt};
 ghost use Rattle.tree_relations.specs.Fits.{FitsTree};
@@ -53,14 +53,34 @@ fn join_nodes(
     };
     let mut entry = [0; 64];
     let mut row = [0; 64];
-    within(
+    let width = vars as usize;
+    join_root(
         prepared,
-        &root.patterns,
+        root,
         nodes,
-        0,
-        0,
-        &mut entry[..vars as usize],
-        &mut row[..vars as usize],
+        &mut entry[..width],
+        &mut row[..width],
         rows,
     )
+}
+
+/// Lists the rows of the root and of the nodes behind it, for two rows in which nothing is bound.
+fn join_root(
+    prepared: &Prepared<'_>,
+    root: &JoinNode<'_>,
+    nodes: &[JoinNode<'_>],
+    entry: &mut [u32],
+    row: &mut [u32],
+    rows: &mut FlatRows,
+) -> Result<(), AllocError>
+    requires together { FitsTogether prepared.now }
+    requires few_nodes { length nodes.now < 64 }
+    requires few { rows.old.vars ≤ max_variables }
+    requires entry { entry.old ≡ replicate rows.old.vars 0 }
+    requires row { row.old ≡ replicate rows.old.vars 0 }
+    requires root { CanJoinNode prepared.now rows.old.vars (as_node root.now) }
+    requires nodes { All (CanJoinNode prepared.now rows.old.vars) (map as_node nodes.now) }
+    ensures { OnOk result (Lists (flat_cells prepared.now (as_node root.now ∷ map as_node nodes.now) rows.old.vars) rows.old rows.new) }
+{
+    within(prepared, &root.patterns, nodes, 0, 0, entry, row, rows)
 }

@@ -24,7 +24,7 @@ fn parent_is_matched(matched: u64, parent: Option<u8>) -> bool
     }
 }
 
-/// Lists the rows of the nodes from number k on, for a row and the nodes that it has matched.
+/// Lists the rows of the nodes from number k on, the root not among them, for a row and the nodes that it has matched.
 #[cycle(join)]
 fn from_node(
     prepared: &Prepared<'_>,
@@ -36,6 +36,7 @@ fn from_node(
 ) -> Result<(), AllocError>
     requires together { FitsTogether prepared.now }
     requires few { k + length nodes.now ≤ 64 }
+    requires later { 0 < k }
     requires width { length row.old ≡ rows.old.vars }
     requires narrow { length row.old ≤ 64 }
     requires nodes { All (CanJoinNode prepared.now (length row.old)) (map as_node nodes.now) }
