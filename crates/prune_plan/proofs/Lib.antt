@@ -1,3 +1,4 @@
+mod Examples
 pub mod AliveNodes
 pub mod Clearing
 pub mod Emptying

@@ -14,8 +14,8 @@ use Rattle.tree_relations.specs.Fits.{FitsTree}
 use Rattle.tree_relations.specs.Readings.{lists_left}
 use Rattle.mask_steps.specs.Held.{HasValue, HasLayoutOf}
 use Rattle.prune_plan.specs.Accepted.{HasNoCrossPlace}
-use Rattle.prune_plan.specs.Members.{is_left_of, held_by, agrees_in, AreSides}
-use Rattle.prune_plan.specs.Nodes.{IsSceneOf, IsLeft, IsFirstValue}
+use Rattle.prune_plan.specs.steps.Members.{is_left_of, held_by, agrees_in, AreSides}
+use Rattle.prune_plan.specs.steps.Nodes.{IsSceneOf, IsLeft, IsFirstValue}
 use Rattle.prune_plan.proofs.Layouts.{agree_stays, lists_same}
 use Rattle.prune_plan.proofs.NodeLaws.{passes_at_end}
 use Rattle.prune_plan.proofs.PassesSame.{passes-all}

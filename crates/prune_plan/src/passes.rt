@@ -7,7 +7,7 @@ ghost use Rattle.pruning_laws.specs.TreePasses.{Item};
 ghost use Rattle.tree_relations.specs.Prepared.{FitsTogether};
 ghost use Rattle.mask_steps.specs.Held.{HasLayoutOf};
 ghost use Rattle.mask_steps.specs.Measure.{Narrows};
-ghost use Rattle.prune_plan.specs.Members.{AreInOrder, AreSides, agrees_in, held_by};
+ghost use Rattle.prune_plan.specs.steps.Members.{AreInOrder, AreSides, agrees_in, held_by};
 
 use alg_model::Var;
 use join_graph::Step;

@@ -2,7 +2,7 @@ use Rattle.std.proofs.Common.{◌≡◌, ◌↔◌, ◌+◌, ◌<◌, ◌∷◌,
 use Rattle.std.proofs.lemmas.List.{drop_more}
 use Rattle.std.proofs.lemmas.Option.{get_or_from_slice_get}
 use Rattle.pruning_laws.specs.Passes.{two_passes}
-use Rattle.prune_plan.specs.Members.{held_by, agrees_in}
+use Rattle.prune_plan.specs.steps.Members.{held_by, agrees_in}
 use Rattle.prune_plan.proofs.Layouts.{layout_then, in_order_same, in_order_then, sides_stay, sides_back, agree_stays}
 use Rattle.prune_plan.proofs.PassesSame.{passes_by_steps}
 use Rattle.prune_plan.proofs.passes.+take_passes.Goals as goal

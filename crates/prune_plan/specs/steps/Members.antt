@@ -1,5 +1,5 @@
--- What members hold where their items are pairs of relations and their values are in working masks, and the steps that
--- passes take on them.
+-- Carries proofs only: what members hold where their items are pairs of relations and their values are in working masks, and the
+-- steps that passes take on them.
 use Rattle.std.specs.Prelude.{◌≡◌, ◌<◌, ℕ, Bool, List, Option, Contains, filter}
 use Rattle.join_graph.specs.declared.steps.Step.TheVariants.{Pattern, Variable}
 use Rattle.join_graph.specs.Members.{Member}
