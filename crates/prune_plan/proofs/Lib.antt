@@ -18,3 +18,4 @@ pub mod SceneLaws
 pub mod Sets
 pub mod Starting
 pub mod TreePruned
+pub mod WantedMembers
