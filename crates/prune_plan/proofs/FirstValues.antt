@@ -10,7 +10,7 @@ use Rattle.pruning_laws.specs.Plans.{IsEdge}
 use Rattle.tree_relations.specs.declared.prepared.PlaceKind.{PlaceKind}
 use Rattle.tree_relations.specs.declared.prepared.Prepared.{Prepared}
 use Rattle.mask_steps.specs.Held.{kind_in, HasValue, HasValueOf, OccursAt}
-use Rattle.prune_plan.specs.Nodes.{IsParent, IsFirstValue}
+use Rattle.prune_plan.specs.steps.Nodes.{IsParent, IsFirstValue}
 use Rattle.prune_plan.proofs.Places.{one_parent}
 
 -- a variable without a kind holds all values

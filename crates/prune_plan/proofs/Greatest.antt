@@ -19,8 +19,8 @@ use Rattle.tree_relations.specs.Fits.{FitsTree}
 use Rattle.tree_relations.specs.Readings.{NumberTriple, as_numbers, lists_left}
 use Rattle.mask_steps.specs.Held.{GivesAt}
 use Rattle.prune_plan.specs.Accepted.{HasNoCrossPlace}
-use Rattle.prune_plan.specs.Members.{is_left_of}
-use Rattle.prune_plan.specs.Nodes.{IsSceneOf, ArePairsOf, IsRound}
+use Rattle.prune_plan.specs.steps.Members.{is_left_of}
+use Rattle.prune_plan.specs.steps.Nodes.{IsSceneOf, ArePairsOf, IsRound}
 use Rattle.prune_plan.proofs.CutLists.{cut, cut-low_only, cut-within, within-cut}
 use Rattle.prune_plan.proofs.Emptying.{all_low}
 use Rattle.prune_plan.proofs.Layouts.{left_before}

@@ -18,7 +18,7 @@ use Rattle.tree_relations.specs.Fits.{FitsTree}
 use Rattle.tree_relations.specs.Readings.{value_of, SideGives, EntryGives, lists_left}
 use Rattle.mask_steps.specs.Held.{GivesAt, IsVarAt, HasLayoutOf}
 use Rattle.mask_steps.specs.Measure.{mask_bits, Narrows}
-use Rattle.prune_plan.specs.Members.{agrees_in, AreSides, AreInOrder}
+use Rattle.prune_plan.specs.steps.Members.{agrees_in, AreSides, AreInOrder}
 
 -- ---- one step after another
 

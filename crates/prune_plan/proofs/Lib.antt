@@ -1,3 +1,4 @@
+mod Examples
 pub mod AliveNodes
 pub mod Clearing
 pub mod Emptying
@@ -17,3 +18,4 @@ pub mod SceneLaws
 pub mod Sets
 pub mod Starting
 pub mod TreePruned
+pub mod WantedMembers

@@ -13,8 +13,8 @@ use Rattle.pruning_laws.proofs.ArcConsistent.{HasHere}
 use Rattle.pruning_laws.proofs.PassLaws.{OfEach}
 use Rattle.tree_relations.specs.declared.prepared.Prepared.{Prepared}
 use Rattle.mask_steps.specs.Held.{HasLayoutOf}
-use Rattle.prune_plan.specs.Members.{is_left_of, agrees_in, AreInOrder}
-use Rattle.prune_plan.specs.Nodes.{IsParent, IsSceneOf, IsFirstValue}
+use Rattle.prune_plan.specs.steps.Members.{is_left_of, agrees_in, AreInOrder}
+use Rattle.prune_plan.specs.steps.Nodes.{IsParent, IsSceneOf, IsFirstValue}
 use Rattle.prune_plan.proofs.Layouts.{gives_stay, left_before}
 use Rattle.prune_plan.proofs.PassesSame.{two_passes-same}
 

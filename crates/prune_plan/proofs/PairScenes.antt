@@ -29,7 +29,7 @@ use Rattle.tree_relations.specs.Fits.{place_at, IsSide, FitsTree}
 use Rattle.tree_relations.specs.Readings.{NumberTriple, as_numbers, part_at, value_of, SideGives, EntryGives, left_of, lists_left, ReadsSide, IsReading}
 use Rattle.mask_steps.specs.Held.{MayMeet, GivesAt}
 use Rattle.prune_plan.specs.Accepted.{HasNoCrossPlace}
-use Rattle.prune_plan.specs.Nodes.{IsSceneOf}
+use Rattle.prune_plan.specs.steps.Nodes.{IsSceneOf}
 use Rattle.prune_plan.proofs.Places.{may_meet}
 
 -- ---- one side

@@ -12,8 +12,8 @@ use Rattle.tree_relations.specs.declared.prepared.Prepared.{Prepared}
 use Rattle.tree_relations.specs.Fits.{FitsTree}
 use Rattle.mask_steps.specs.Held.{HasLayoutOf}
 use Rattle.mask_steps.specs.Measure.{Narrows}
-use Rattle.prune_plan.specs.Members.{is_left_of, AreInOrder}
-use Rattle.prune_plan.specs.Nodes.{IsSceneOf, IsLeft, ArePairsOf, IsNodePruned, IsRound}
+use Rattle.prune_plan.specs.steps.Members.{is_left_of, AreInOrder}
+use Rattle.prune_plan.specs.steps.Nodes.{IsSceneOf, IsLeft, ArePairsOf, IsNodePruned, IsRound}
 use Rattle.prune_plan.proofs.Emptying.{pairs_more, round_more}
 use Rattle.prune_plan.proofs.Layouts.{layout_then, in_order_same, in_order_then, narrows_same, narrows_then}
 use Rattle.prune_plan.proofs.NodeLaws.{scene_stays}

@@ -8,8 +8,8 @@ ghost use Rattle.tree_relations.specs.Readings.{IsReading, NumberTriple, as_numb
 ghost use Rattle.mask_steps.specs.Held.{HasLayoutOf};
 ghost use Rattle.mask_steps.specs.Measure.{Narrows};
 ghost use Rattle.prune_plan.specs.Accepted.{HasNoCrossPlace};
-ghost use Rattle.prune_plan.specs.Members.{AreInOrder};
-ghost use Rattle.prune_plan.specs.Nodes.{IsNodePruned, IsReduced, IsRound};
+ghost use Rattle.prune_plan.specs.steps.Members.{AreInOrder};
+ghost use Rattle.prune_plan.specs.steps.Nodes.{IsNodePruned, IsReduced, IsRound};
 
 use crate::lives::{empty_node, is_alive};
 use crate::passes::take_passes;

@@ -10,7 +10,7 @@ ghost use Rattle.tree_relations.specs.Readings.{lists_left};
 ghost use Rattle.mask_steps.specs.Held.{HasLayoutOf, HasValue, IsVarAt, OccursAt, kind_in};
 ghost use Rattle.mask_steps.specs.Measure.{mask_bits};
 ghost use Rattle.prune_plan.specs.Accepted.{HasNoCrossPlace};
-ghost use Rattle.prune_plan.specs.Nodes.{IsFirstValue};
+ghost use Rattle.prune_plan.specs.steps.Nodes.{IsFirstValue};
 
 use crate::nodes::parent_of;
 use alg_model::Var;

@@ -1,4 +1,4 @@
--- What pruning leaves of a node, and of all nodes, in the words of passes over a scene that shows the tree.
+-- Carries proofs only: what pruning leaves of a node, and of all nodes, in the words of passes over a scene that shows the tree.
 use Rattle.std.specs.Prelude.{◌≡◌, ◌↔◌, ◌<◌, ℕ, List, length, Some, Contains, slice_get}
 use Rattle.alg_model.specs.declared.pattern.TriplePat.{TriplePat}
 use Rattle.join_graph.specs.declared.steps.Step.TheVariants.{Pattern}
@@ -13,7 +13,7 @@ use Rattle.pruning_laws.specs.TreePasses.{Holding, Triple, IsFilled, at_end, nod
 use Rattle.tree_relations.specs.declared.prepared.Prepared.{Prepared}
 use Rattle.tree_relations.specs.Readings.{lists_left}
 use Rattle.mask_steps.specs.Held.{GivesAt, OccursAt}
-use Rattle.prune_plan.specs.Members.{is_left_of}
+use Rattle.prune_plan.specs.steps.Members.{is_left_of}
 
 -- a triple pattern of node k has this place in the text
 abbrev pub HasPlace : List TreeNode → ℕ → ℕ → Type 0
