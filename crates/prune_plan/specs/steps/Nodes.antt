@@ -1,6 +1,7 @@
 -- Carries proofs only: what pruning leaves of a node, and of all nodes, in the words of passes over a scene that shows the tree.
 use Rattle.std.specs.Prelude.{◌≡◌, ◌↔◌, ◌<◌, ℕ, List, length, Some, Contains, slice_get}
 use Rattle.alg_model.specs.declared.pattern.TriplePat.{TriplePat}
+use Rattle.cube_slices.specs.Lines.{pairs_of}
 use Rattle.join_graph.specs.declared.steps.Step.TheVariants.{Pattern}
 use Rattle.join_graph.specs.Members.{Member}
 use Rattle.node_plans.specs.NodePlan.{IsByRemoval, IsForestNode, IsNodePair, IsNodePlan}
@@ -10,6 +11,7 @@ use Rattle.pruning_laws.specs.Plans.{IsEdge}
 use Rattle.pruning_laws.specs.Scene.{Scene, Has, Gives, IsAtOrAbove, StandsIn, parent_in}
 use Rattle.pruning_laws.specs.Shown.{entry_of}
 use Rattle.pruning_laws.specs.TreePasses.{Holding, Triple, IsFilled, at_end, node_passes, tree_passes}
+use Rattle.tree_relations.specs.declared.prepared.Entry.{Entry}
 use Rattle.tree_relations.specs.declared.prepared.Prepared.{Prepared}
 use Rattle.tree_relations.specs.Readings.{lists_left}
 use Rattle.mask_steps.specs.Held.{GivesAt, OccursAt}
@@ -23,6 +25,10 @@ HasPlace tree k i = (pattern : TriplePat) × StandsAt tree k pattern × (entry_o
 abbrev pub IsParent : List TreeNode → ℕ → ℕ → Type 0
 IsParent tree k parent = (node : TreeNode) × (slice_get tree k ≡ Some node) × (node.parent ≡ Some parent)
 
+-- a pair of the relation of the entry in this place, left or not
+abbrev pub IsPairOf : Prepared → ℕ → ℕ × ℕ → Type 0
+IsPairOf p i pair = (e : Entry) × (slice_get p.entries i ≡ Some e) × Contains (pairs_of e.rel.lines) pair
+
 -- The scene shows the tree: its triple patterns stand where those of the tree do, with the same variables. Its items are
 -- the pairs of the relations, which give the same values.
 pub record IsSceneOf (tree : List TreeNode) (p : Prepared) (scene : Scene ℕ (ℕ × ℕ)) : Type 0 where
@@ -32,7 +38,7 @@ pub record IsSceneOf (tree : List TreeNode) (p : Prepared) (scene : Scene ℕ (�
   pub above : (m k : ℕ) → k < length tree → IsAtOrAbove scene.parents m k ↔ IsWithin tree m k
   pub parents : (k parent : ℕ) → IsParent tree k parent → (0 < k) × (parent_in scene k ≡ parent)
   pub hangs : (k : ℕ) → 0 < k → k < length tree → IsParent tree k (parent_in scene k)
-  pub gives : (i : ℕ) (pair : ℕ × ℕ) (v x : ℕ) → i < length scene.patterns → Contains (lists_left p i) pair → Gives scene i pair v x ↔ GivesAt p i pair v x
+  pub gives : (i : ℕ) (pair : ℕ × ℕ) (v x : ℕ) → i < length scene.patterns → IsPairOf p i pair → Gives scene i pair v x ↔ GivesAt p i pair v x
 
 -- what is left of the relations is what the triple patterns of the scene hold
 abbrev pub IsLeft : Scene ℕ (ℕ × ℕ) → Holding (ℕ × ℕ) → Prepared → Type 0
