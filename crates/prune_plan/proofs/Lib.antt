@@ -7,6 +7,7 @@ pub mod GatherLaws
 pub mod CutLists
 pub mod Greatest
 pub mod Layouts
+pub mod Levels
 pub mod NodeLaws
 pub mod NodeReduced
 pub mod PairScenes
