@@ -1,5 +1,5 @@
 -- A node that is a forest is level once it is pruned, and stays so while later nodes are.
-use Rattle.std.proofs.Common.{◌≡◌, ◌≢◌, ◌↔◌, inl, inr, ℕ, ◌<◌, List, length, Contains, refl, sym, ◌∙◌, subst}
+use Rattle.std.proofs.Common.{◌≡◌, ◌≢◌, inl, inr, ℕ, ◌+◌, ◌<◌, List, Contains, sym, ◌∙◌, subst, arith}
 use Rattle.std.proofs.lemmas.Bool.{cases_eq}
 use Rattle.join_graph.specs.declared.steps.Step.TheVariants.{Pattern, Variable}
 use Rattle.join_graph.specs.Members.{Member}
@@ -7,12 +7,12 @@ use Rattle.node_plans.specs.NodePlan.{IsForestNode, IsNodePair}
 use Rattle.pattern_tree.specs.Tree.{TreeNode}
 use Rattle.pruning_laws.specs.Passes.{HasPartner}
 use Rattle.pruning_laws.specs.Plans.{IsEdge}
-use Rattle.pruning_laws.specs.Scene.{Scene, Has, Gives, StandsIn, node_of}
+use Rattle.pruning_laws.specs.Scene.{Scene, Gives, StandsIn}
 use Rattle.pruning_laws.specs.TreePasses.{Item, Triple, Value, agrees, holding, first_values, at_end, node_passes}
 use Rattle.pruning_laws.proofs.ArcConsistent.{governs_same}
 use Rattle.pruning_laws.proofs.Keeping.{AreNeighbours, node_passes-within, elsewhere}
 use Rattle.pruning_laws.proofs.Pairing.{enough_from_removal}
-use Rattle.pruning_laws.proofs.PassLaws.{OfEach, two_passes-within}
+use Rattle.pruning_laws.proofs.PassLaws.{two_passes-within}
 use Rattle.pruning_laws.proofs.Settling.{Matters, IsEnough, AreBalanced, enough_balances}
 use Rattle.tree_relations.specs.declared.prepared.Prepared.{Prepared}
 use Rattle.tree_relations.specs.Fits.{FitsTree}
@@ -20,9 +20,9 @@ use Rattle.tree_relations.specs.Readings.{lists_left}
 use Rattle.mask_steps.specs.Held.{GivesAt, OccursAt, HasLayoutOf}
 use Rattle.prune_plan.specs.Accepted.{HasNoCrossPlace}
 use Rattle.prune_plan.specs.steps.Members.{is_left_of}
-use Rattle.prune_plan.specs.steps.Nodes.{IsPairOf, IsSceneOf, IsLeft, IsLevel, ArePairsOf}
+use Rattle.prune_plan.specs.steps.Nodes.{IsPairOf, IsSceneOf, IsLeft, IsLevel, HasLevel, ArePairsOf, IsNodePruned}
 use Rattle.prune_plan.proofs.Layouts.{gives_stay, pair_of_left}
-use Rattle.prune_plan.proofs.NodeLaws.{each_listed}
+use Rattle.prune_plan.proofs.NodeLaws.{each_listed, scene_back}
 use Rattle.prune_plan.proofs.PairScenes.{gives_one}
 
 module _ (tree : List TreeNode) (old : Prepared) (scene : Scene ℕ (ℕ × ℕ)) (is : IsSceneOf tree old scene) (k : ℕ) (pairs : List (Member × Member)) (are : ArePairsOf tree k pairs)
@@ -105,4 +105,15 @@ module _ (tree : List TreeNode) (old : Prepared) (scene : Scene ℕ (ℕ × ℕ)
     level_here i j v x edge edge' occurs = elim (cases_eq i j) as (λ _. OccursAt new j v x) [
       | inl same ↦ subst (λ i. OccursAt new i v x) same occurs
       | inr apart ↦ between i j v x apart edge edge' occurs
+    ]
+
+-- ---- one node after another
+
+pub level_more : (tree : List TreeNode) (mid new : Prepared) (k : ℕ) → IsForestNode tree k → FitsTree tree mid → HasNoCrossPlace tree → IsNodePruned tree k mid new → HasLayoutOf mid new → ((j : ℕ) → j < k → HasLevel tree mid j) →
+    (j : ℕ) → j < k + 1 → HasLevel tree new j
+level_more tree mid new k forest fits accepted pruned layout before j low = λ scene is.
+    let was = scene_back tree scene mid new layout is in
+    elim (cases_eq j k) as (λ _. IsLevel tree new j) [
+      | inl same ↦ subst (IsLevel tree new) (sym same) (level_here tree mid scene was k pruned.0 pruned.1 new (pruned.2 scene was) layout fits accepted forest)
+      | inr apart ↦ level_stays tree mid scene was k pruned.0 pruned.1 new (pruned.2 scene was) layout j apart (before j (omega arith) scene was)
     ]

@@ -1,5 +1,6 @@
 mod Examples
 pub mod AliveNodes
+pub mod AskedOnce
 pub mod Clearing
 pub mod Emptying
 pub mod FirstValues

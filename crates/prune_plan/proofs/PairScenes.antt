@@ -7,10 +7,7 @@ use Rattle.alg_model.specs.declared.pattern.TriplePat.{TriplePat}
 use Rattle.alg_model.specs.declared.var.Var.{Var}
 use Rattle.alg_model.specs.Pattern.{IsVar}
 use Rattle.cube_slices.specs.Lines.{pairs_of}
-use Rattle.mask_pool.specs.Region.{words_of}
 use Rattle.node_plans.proofs.Limits.{node_there}
-use Rattle.pattern_rel.specs.Left.{is_left}
-use Rattle.pattern_rel.proofs.PairLaws.{Contains-filter}
 use Rattle.pattern_tree.specs.Consistent.{TakesValue}
 use Rattle.pattern_tree.specs.Standing.{StandsAt}
 use Rattle.pattern_tree.specs.Tree.{TreeNode}
@@ -26,7 +23,7 @@ use Rattle.tree_relations.specs.declared.prepared.Entry.{Entry}
 use Rattle.tree_relations.specs.declared.prepared.Prepared.{Prepared}
 use Rattle.tree_relations.specs.Prepared.{MeetsItself, FitsEntry}
 use Rattle.tree_relations.specs.Fits.{place_at, IsSide, FitsTree}
-use Rattle.tree_relations.specs.Readings.{NumberTriple, as_numbers, part_at, value_of, SideGives, EntryGives, left_of, lists_left, ReadsSide, IsReading}
+use Rattle.tree_relations.specs.Readings.{NumberTriple, as_numbers, part_at, value_of, SideGives, EntryGives, ReadsSide, IsReading}
 use Rattle.mask_steps.specs.Held.{MayMeet, GivesAt}
 use Rattle.prune_plan.specs.Accepted.{HasNoCrossPlace}
 use Rattle.prune_plan.specs.steps.Nodes.{IsPairOf, IsSceneOf}
