@@ -1,5 +1,6 @@
 mod Examples
 pub mod AliveNodes
+pub mod AskedOnce
 pub mod Clearing
 pub mod Emptying
 pub mod FirstValues
@@ -7,6 +8,7 @@ pub mod GatherLaws
 pub mod CutLists
 pub mod Greatest
 pub mod Layouts
+pub mod Levels
 pub mod NodeLaws
 pub mod NodeReduced
 pub mod PairScenes

@@ -18,7 +18,7 @@ returns-clause-reduced c =
       pairs,
       record { plan = c.node_pairs-pairs.ensures.plan; forest = c.node_pairs-pairs.ensures.forest; each = c.node_pairs-pairs.ensures.each },
       λ scene is. node_reduced tree c.args.prepared.now scene is c.args.node pairs c.node_pairs-pairs.ensures.each c.requires.node c.first_values-kinds.new.prepared c.take_passes.new.prepared c.first_values-kinds.result c.take_passes.new.kinds
-          c.first_values-kinds.ensures.layout c.first_values-kinds.ensures.lists c.first_values-kinds.ensures.values (λ i pair. c.take_passes.ensures.held (Pattern i) (Triple pair) tt),
+          c.first_values-kinds.ensures.layout c.first_values-kinds.ensures.lists (c.first_values-kinds.ensures.values scene is) (λ i pair. c.take_passes.ensures.held (Pattern i) (Triple pair) tt),
     )
 
 pub returns-clause-in_order : goal.returns-clause-in_order
