@@ -3,7 +3,7 @@ use Rattle.std.proofs.Common.{ℕ, List, subst}
 use Rattle.pattern_tree.specs.Standing.{IsWithin, itself, below}
 use Rattle.pattern_tree.specs.Tree.{TreeNode}
 use Rattle.tree_relations.specs.declared.prepared.Prepared.{Prepared}
-use Rattle.prune_plan.specs.Nodes.{IsParent, IsNodeFilled, IsAlive}
+use Rattle.prune_plan.specs.steps.Nodes.{IsParent, IsNodeFilled, IsAlive}
 use Rattle.prune_plan.proofs.Places.{one_parent}
 
 module _ (tree : List TreeNode) (p : Prepared) (k : ℕ) where

@@ -15,8 +15,8 @@ use Rattle.tree_relations.specs.Prepared.{FitsTogether}
 use Rattle.tree_relations.specs.Readings.{lists_left}
 use Rattle.mask_steps.specs.Held.{HasLayoutOf}
 use Rattle.mask_steps.specs.Measure.{Narrows}
-use Rattle.prune_plan.specs.Members.{is_left_of, AreInOrder}
-use Rattle.prune_plan.specs.Nodes.{HasPlace, IsNodeFilled}
+use Rattle.prune_plan.specs.steps.Members.{is_left_of, AreInOrder}
+use Rattle.prune_plan.specs.steps.Nodes.{HasPlace, IsNodeFilled}
 use Rattle.prune_plan.proofs.Layouts.{layout_then, in_order_one, in_order_same, in_order_then, narrows_same, narrows_then}
 
 filter_none : {X : Type 0} (xs : List X) → filter (λ x. false) xs ≡ []

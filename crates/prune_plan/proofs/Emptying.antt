@@ -15,8 +15,8 @@ use Rattle.pruning_laws.proofs.ArcConsistent.{governs_from}
 use Rattle.pruning_laws.proofs.PassLaws.{OfEach}
 use Rattle.tree_relations.specs.declared.prepared.Prepared.{Prepared}
 use Rattle.tree_relations.specs.Readings.{lists_left}
-use Rattle.prune_plan.specs.Members.{is_left_of}
-use Rattle.prune_plan.specs.Nodes.{HasPlace, IsSceneOf, IsLeft, IsAlive, ArePairsOf}
+use Rattle.prune_plan.specs.steps.Members.{is_left_of}
+use Rattle.prune_plan.specs.steps.Nodes.{HasPlace, IsSceneOf, IsLeft, IsAlive, ArePairsOf}
 use Rattle.prune_plan.proofs.NodeLaws.{each_listed}
 use Rattle.prune_plan.proofs.SceneLaws.{IsLow, node_same}
 

@@ -15,10 +15,10 @@ use Rattle.prune_plan.proofs.Starting.{HasGathered, gathered_more, gathered_skip
 abbrev pub LeavesLists : Prepared → Prepared → Type 0
 LeavesLists old new = ((i : ℕ) → lists_left new i ≡ lists_left old i) × ((mask_bits new ≡ mask_bits old) × HasLayoutOf old new)
 
-leaves_then : (a b c : Prepared) → LeavesLists a b → LeavesLists b c → LeavesLists a c
+pub leaves_then : (a b c : Prepared) → LeavesLists a b → LeavesLists b c → LeavesLists a c
 leaves_then a b c first second = (λ i. second.0 i ∙ first.0 i, (second.1.0 ∙ first.1.0, layout_then a b c first.1.1 second.1.1))
 
-occurs_stays : (old new : Prepared) → LeavesLists old new → (i v x : ℕ) → OccursAt new i v x ↔ OccursAt old i v x
+pub occurs_stays : (old new : Prepared) → LeavesLists old new → (i v x : ℕ) → OccursAt new i v x ↔ OccursAt old i v x
 occurs_stays old new same i v x = (
   λ o. (o.0, subst (λ l. Contains l o.0) (same.0 i) o.1, (gives_stay old new same.1.1 i o.0 v x).0 o.2),
   λ o. (o.0, subst (λ l. Contains l o.0) (sym (same.0 i)) o.1, (gives_stay old new same.1.1 i o.0 v x).1 o.2),

@@ -19,11 +19,11 @@ use Rattle.tree_relations.specs.Fits.{FitsTree}
 use Rattle.tree_relations.specs.Readings.{NumberTriple, as_numbers, lists_left}
 use Rattle.mask_steps.specs.Held.{GivesAt}
 use Rattle.prune_plan.specs.Accepted.{HasNoCrossPlace}
-use Rattle.prune_plan.specs.Members.{is_left_of}
-use Rattle.prune_plan.specs.Nodes.{IsSceneOf, ArePairsOf, IsRound}
+use Rattle.prune_plan.specs.steps.Members.{is_left_of}
+use Rattle.prune_plan.specs.steps.Nodes.{IsPairOf, IsSceneOf, ArePairsOf, IsRound}
 use Rattle.prune_plan.proofs.CutLists.{cut, cut-low_only, cut-within, within-cut}
 use Rattle.prune_plan.proofs.Emptying.{all_low}
-use Rattle.prune_plan.proofs.Layouts.{left_before}
+use Rattle.prune_plan.proofs.Layouts.{left_before, pair_of_left}
 use Rattle.prune_plan.proofs.NodeLaws.{scene_stays}
 use Rattle.prune_plan.proofs.PairScenes.{gives_one}
 use Rattle.prune_plan.proofs.Pruned.{IsReached, plan_of}
@@ -55,8 +55,8 @@ module _ (tree : List TreeNode) (connected : IsConnected tree) (stands_for : ℕ
       let k = node_of scene i in
       let s : StandsIn scene i k = (there.0, refl) in
       let here = shows.entry_at i k s in
-      let gives = λ (x : ℕ). (is.gives i pair v x there.0 there.1).0 in
-      gives_one tree old fits accepted k (shows.pattern_at i) (shows.stands i k s) pair (subst (λ i. Contains (lists_left old i) pair) (sym here) there.1) v x y
+      let gives = λ (x : ℕ). (is.gives i pair v x there.0 (pair_of_left old i pair there.1)).0 in
+      gives_one tree old fits accepted k (shows.pattern_at i) (shows.stands i k s) pair (subst (λ i. IsPairOf old i pair) (sym here) (pair_of_left old i pair there.1)) v x y
       (subst (λ i. GivesAt old i pair v x) (sym here) (gives x first)) (subst (λ i. GivesAt old i pair v y) (sym here) (gives y second))
 
   -- ---- the last round
@@ -77,7 +77,7 @@ module _ (tree : List TreeNode) (connected : IsConnected tree) (stands_for : ℕ
     unchanged : LiesWithin (listed left) (tree_passes scene round.0 (length scene.parents) (listed left))
     unchanged i pair at =
         let there = cut-within places (lists_left new) i pair at in
-        let here = scene_stays tree scene old last before.layout before.in_order is in
+        let here = scene_stays tree scene old last before.layout is in
         let passed = (round.2 scene here i pair there.0).0 there.1 in
         let swap : AreSameIn scene (is_left_of last) (listed left) = λ j t low. (
           λ at. within-cut places (lists_left new) j t low (subst (λ l. Contains l t) (sym (same j)) at),

@@ -4,7 +4,10 @@ use Rattle.std.specs.Prelude.{slice_get}
 use Rattle.std.proofs.lemmas.Bool.{cases_eq}
 use Rattle.join_graph.specs.declared.steps.Step.TheVariants.{Pattern, Variable}
 use Rattle.join_graph.specs.Members.{Member}
-use Rattle.mask_pool.specs.Region.{Region}
+use Rattle.bm_term.proofs.Elements.{Contains-nil}
+use Rattle.cube_slices.specs.Lines.{pairs_of}
+use Rattle.mask_pool.specs.Region.{Region, words_of}
+use Rattle.pattern_rel.specs.Left.{is_left}
 use Rattle.pattern_rel.proofs.NextLaws.{filter_true}
 use Rattle.pattern_rel.proofs.PairLaws.{Contains-filter, filter_both}
 use Rattle.pattern_tree.specs.Tree.{TreeNode}
@@ -15,10 +18,11 @@ use Rattle.tree_relations.specs.declared.prepared.SidePlace.{SidePlace}
 use Rattle.tree_relations.specs.declared.prepared.Entry.{Entry}
 use Rattle.tree_relations.specs.declared.prepared.Prepared.{Prepared}
 use Rattle.tree_relations.specs.Fits.{FitsTree}
-use Rattle.tree_relations.specs.Readings.{value_of, SideGives, EntryGives, lists_left}
+use Rattle.tree_relations.specs.Readings.{value_of, SideGives, EntryGives, left_of, lists_left}
 use Rattle.mask_steps.specs.Held.{GivesAt, IsVarAt, HasLayoutOf}
 use Rattle.mask_steps.specs.Measure.{mask_bits, Narrows}
-use Rattle.prune_plan.specs.Members.{agrees_in, AreSides, AreInOrder}
+use Rattle.prune_plan.specs.steps.Nodes.{IsPairOf}
+use Rattle.prune_plan.specs.steps.Members.{agrees_in, AreSides, AreInOrder}
 
 -- ---- one step after another
 
@@ -135,3 +139,23 @@ sides_back p (Pattern i) (Variable v) sides = sides
 sides_back p (Variable v) (Pattern i) sides = sides
 sides_back p (Pattern i) (Pattern j) sides = sides
 sides_back p (Variable v) (Variable w) sides = sides
+
+-- ---- pairs of a relation
+
+-- a pair that is left is one of them
+pub pair_of_left : (p : Prepared) (i : ℕ) (pair : ℕ × ℕ) → Contains (lists_left p i) pair → IsPairOf p i pair
+pair_of_left p i pair at = by (slice_get p.entries i) refl where
+  by : (o : Option Entry) → slice_get p.entries i ≡ o → IsPairOf p i pair
+  by None is = absurd (Contains-nil pair (subst (λ o. Contains (left_of p o) pair) is at))
+  by (Some e) is = (
+    e,
+    is,
+    ((Contains-filter (is_left (words_of p.pool e.rel.first) (words_of p.pool e.rel.second)) (pairs_of e.rel.lines) pair).0 (subst (λ o. Contains (left_of p o) pair) is at)).0,
+  )
+
+-- and they stay
+pub pair_stays : (old new : Prepared) → HasLayoutOf old new → (i : ℕ) (pair : ℕ × ℕ) → IsPairOf new i pair → IsPairOf old i pair
+pair_stays old new layout i pair is = (is.0, ap (λ entries. slice_get entries i) (sym (entries_stay old new layout)) ∙ is.1, is.2)
+
+pub pair_back : (old new : Prepared) → HasLayoutOf old new → (i : ℕ) (pair : ℕ × ℕ) → IsPairOf old i pair → IsPairOf new i pair
+pair_back old new layout i pair is = (is.0, ap (λ entries. slice_get entries i) (entries_stay old new layout) ∙ is.1, is.2)

@@ -1,4 +1,6 @@
+mod Examples
 pub mod AliveNodes
+pub mod AskedOnce
 pub mod Clearing
 pub mod Emptying
 pub mod FirstValues
@@ -6,6 +8,7 @@ pub mod GatherLaws
 pub mod CutLists
 pub mod Greatest
 pub mod Layouts
+pub mod Levels
 pub mod NodeLaws
 pub mod NodeReduced
 pub mod PairScenes
@@ -17,3 +20,4 @@ pub mod SceneLaws
 pub mod Sets
 pub mod Starting
 pub mod TreePruned
+pub mod WantedMembers

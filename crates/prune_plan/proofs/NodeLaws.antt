@@ -13,9 +13,9 @@ use Rattle.pruning_laws.proofs.ArcConsistent.{HasHere}
 use Rattle.pruning_laws.proofs.PassLaws.{OfEach}
 use Rattle.tree_relations.specs.declared.prepared.Prepared.{Prepared}
 use Rattle.mask_steps.specs.Held.{HasLayoutOf}
-use Rattle.prune_plan.specs.Members.{is_left_of, agrees_in, AreInOrder}
-use Rattle.prune_plan.specs.Nodes.{IsParent, IsSceneOf, IsFirstValue}
-use Rattle.prune_plan.proofs.Layouts.{gives_stay, left_before}
+use Rattle.prune_plan.specs.steps.Members.{is_left_of, agrees_in}
+use Rattle.prune_plan.specs.steps.Nodes.{IsParent, IsSceneOf, IsFirstValue}
+use Rattle.prune_plan.proofs.Layouts.{gives_stay, pair_of_left, pair_stays, pair_back}
 use Rattle.prune_plan.proofs.PassesSame.{two_passes-same}
 
 -- of each pair, by the list
@@ -24,8 +24,8 @@ each_listed P [] has = tt
 each_listed P ((m, n) ∷ pairs) has = (has m n (Contains-head (m, n) pairs), each_listed P pairs (λ a b at. has a b (Contains-tail (m, n) pairs (a, b) at)))
 
 -- the scene stays while pairs are dropped
-pub scene_stays : (tree : List TreeNode) (scene : Scene ℕ (ℕ × ℕ)) (old new : Prepared) → HasLayoutOf old new → AreInOrder old new → IsSceneOf tree old scene → IsSceneOf tree new scene
-scene_stays tree scene old new layout in_order is = record {
+pub scene_stays : (tree : List TreeNode) (scene : Scene ℕ (ℕ × ℕ)) (old new : Prepared) → HasLayoutOf old new → IsSceneOf tree old scene → IsSceneOf tree new scene
+scene_stays tree scene old new layout is = record {
   nodes = is.nodes;
   stands = is.stands;
   edges = is.edges;
@@ -33,9 +33,25 @@ scene_stays tree scene old new layout in_order is = record {
   parents = is.parents;
   hangs = is.hangs;
   gives = λ i pair v x low at. (
-      let before = is.gives i pair v x low (left_before old new in_order i pair at) in
+      let before = is.gives i pair v x low (pair_stays old new layout i pair at) in
       let stay = gives_stay old new layout i pair v x in
       (λ h. stay.1 (before.0 h), λ h. before.1 (stay.0 h))
+      );
+}
+
+-- and it was one before
+pub scene_back : (tree : List TreeNode) (scene : Scene ℕ (ℕ × ℕ)) (old new : Prepared) → HasLayoutOf old new → IsSceneOf tree new scene → IsSceneOf tree old scene
+scene_back tree scene old new layout is = record {
+  nodes = is.nodes;
+  stands = is.stands;
+  edges = is.edges;
+  above = is.above;
+  parents = is.parents;
+  hangs = is.hangs;
+  gives = λ i pair v x low at. (
+      let after = is.gives i pair v x low (pair_back old new layout i pair at) in
+      let stay = gives_stay old new layout i pair v x in
+      (λ h. stay.0 (after.0 h), λ h. after.1 (stay.1 h))
       );
 }
 
@@ -67,8 +83,8 @@ module _ (tree : List TreeNode) (p : Prepared) (scene : Scene ℕ (ℕ × ℕ)) 
   whole = holding (is_left_of p) (λ v x. Unit {0})
 
   alike : (m n : Member) (i j : Item ℕ (ℕ × ℕ)) → IsHere m → IsHere n → whole m i → whole n j → agrees_in p m i n j ↔ agrees scene m i n j
-  alike (Pattern q) (Variable v) (Triple t) (Value x) here other at all = let g = is.gives q t v x here at in (g.1, g.0)
-  alike (Variable v) (Pattern q) (Value x) (Triple t) other here all at = let g = is.gives q t v x here at in (g.1, g.0)
+  alike (Pattern q) (Variable v) (Triple t) (Value x) here other at all = let g = is.gives q t v x here (pair_of_left p q t at) in (g.1, g.0)
+  alike (Variable v) (Pattern q) (Value x) (Triple t) other here all at = let g = is.gives q t v x here (pair_of_left p q t at) in (g.1, g.0)
   alike (Pattern q) (Variable v) (Triple t) (Triple s) here other at all = (λ h. h, λ h. h)
   alike (Pattern q) (Variable v) (Value x) j here other at all = (λ h. h, λ h. h)
   alike (Pattern q) (Pattern r) i j here other at all = (λ h. h, λ h. h)
@@ -85,7 +101,7 @@ module _ (tree : List TreeNode) (p : Prepared) (scene : Scene ℕ (ℕ × ℕ)) 
         let parent = parent_in scene (suc j) in
         let hangs : IsParent tree k parent = subst (λ k. IsParent tree k parent) same (is.hangs (suc j) (omega arith) (omega (arith, same, low))) in
         let o = h parent q hangs ((is.edges parent q v).0 (stands, has)) in
-        (o.0, o.1, (is.gives q o.0 v x stands.0 o.1).1 o.2)
+        (o.0, o.1, (is.gives q o.0 v x stands.0 (pair_of_left p q o.0 o.1)).1 o.2)
 
     from_first : (j v x : ℕ) → j ≡ k → first_values scene (is_left_of p) j v x → IsFirstValue tree p k v x
     from_first zero v x same h = λ parent q hangs edge. let up = is.parents k parent hangs in absurd (omega (arith, same, up.0))
@@ -94,7 +110,7 @@ module _ (tree : List TreeNode) (p : Prepared) (scene : Scene ℕ (ℕ × ℕ)) 
         let e : parent_in scene (suc j) ≡ parent = ap (parent_in scene) same ∙ up.1 in
         let both = (is.edges parent q v).1 edge in
         let o = h q (subst (StandsIn scene q) (sym e) both.0) both.1 in
-        (o.0, o.1, (is.gives q o.0 v x both.0.0 o.1).0 o.2)
+        (o.0, o.1, (is.gives q o.0 v x both.0.0 (pair_of_left p q o.0 o.1)).0 o.2)
 
     begin : (m : Member) (i : Item ℕ (ℕ × ℕ)) → IsHere m → holding (is_left_of p) values m i ↔ holding (is_left_of p) (first_values scene (is_left_of p) k) m i
     begin (Pattern q) (Triple t) here = (λ h. h, λ h. h)

@@ -14,8 +14,8 @@ use Rattle.tree_relations.specs.Fits.{FitsTree}
 use Rattle.tree_relations.specs.Readings.{lists_left}
 use Rattle.mask_steps.specs.Held.{HasValue, HasLayoutOf}
 use Rattle.prune_plan.specs.Accepted.{HasNoCrossPlace}
-use Rattle.prune_plan.specs.Members.{is_left_of, held_by, agrees_in, AreSides}
-use Rattle.prune_plan.specs.Nodes.{IsSceneOf, IsLeft, IsFirstValue}
+use Rattle.prune_plan.specs.steps.Members.{is_left_of, held_by, agrees_in, AreSides}
+use Rattle.prune_plan.specs.steps.Nodes.{IsSceneOf, IsLeft, IsFirstValue}
 use Rattle.prune_plan.proofs.Layouts.{agree_stays, lists_same}
 use Rattle.prune_plan.proofs.NodeLaws.{passes_at_end}
 use Rattle.prune_plan.proofs.PassesSame.{passes-all}
@@ -31,10 +31,10 @@ pair_sides tree p fits accepted k (Variable v) (Variable w) none low = absurd no
 pub node_reduced : (tree : List TreeNode) (old : Prepared) (scene : Scene ℕ (ℕ × ℕ)) → IsSceneOf tree old scene → (k : ℕ) (pairs : List (Member × Member)) → ((m n : Member) → Contains pairs (m, n) → IsNodePair tree k m n) →
     k < length tree → (mid new : Prepared) (kinds fresh : List (Option PlaceKind)) → HasLayoutOf old mid → ((i : ℕ) → lists_left mid i ≡ lists_left old i) →
     ((i v x : ℕ) → IsEdge tree k i v → HasValue mid kinds v x ↔ IsFirstValue tree old k v x) →
-    ((m : Member) (item : Item ℕ (ℕ × ℕ)) → held_by new fresh m item ↔ two_passes (agrees_in mid) pairs (held_by mid kinds) m item) →
+    ((i : ℕ) (pair : ℕ × ℕ) → held_by new fresh (Pattern i) (Triple pair) ↔ two_passes (agrees_in mid) pairs (held_by mid kinds) (Pattern i) (Triple pair)) →
     IsLeft scene (λ i t. at_end scene k pairs (is_left_of old) (Pattern i) (Triple t)) new
 node_reduced tree old scene is k pairs each low mid new kinds fresh layout lists values held i pair here =
-    let passes = held (Pattern i) (Triple pair) in
+    let passes = held i pair in
     let back = passes-all (agrees_in mid) (agrees_in old) (agree_stays old mid layout) pairs (held_by mid kinds) (holding (is_left_of old) (HasValue mid kinds)) begin (Pattern i) (Triple pair) in
     let ends = passes_at_end tree old scene is k pairs each low (HasValue mid kinds) values i pair here in
     (λ at. ends.0 (back.0 (passes.0 at)), λ h. passes.1 (back.1 (ends.1 h))) where

@@ -7,10 +7,7 @@ use Rattle.alg_model.specs.declared.pattern.TriplePat.{TriplePat}
 use Rattle.alg_model.specs.declared.var.Var.{Var}
 use Rattle.alg_model.specs.Pattern.{IsVar}
 use Rattle.cube_slices.specs.Lines.{pairs_of}
-use Rattle.mask_pool.specs.Region.{words_of}
 use Rattle.node_plans.proofs.Limits.{node_there}
-use Rattle.pattern_rel.specs.Left.{is_left}
-use Rattle.pattern_rel.proofs.PairLaws.{Contains-filter}
 use Rattle.pattern_tree.specs.Consistent.{TakesValue}
 use Rattle.pattern_tree.specs.Standing.{StandsAt}
 use Rattle.pattern_tree.specs.Tree.{TreeNode}
@@ -26,10 +23,10 @@ use Rattle.tree_relations.specs.declared.prepared.Entry.{Entry}
 use Rattle.tree_relations.specs.declared.prepared.Prepared.{Prepared}
 use Rattle.tree_relations.specs.Prepared.{MeetsItself, FitsEntry}
 use Rattle.tree_relations.specs.Fits.{place_at, IsSide, FitsTree}
-use Rattle.tree_relations.specs.Readings.{NumberTriple, as_numbers, part_at, value_of, SideGives, EntryGives, left_of, lists_left, ReadsSide, IsReading}
+use Rattle.tree_relations.specs.Readings.{NumberTriple, as_numbers, part_at, value_of, SideGives, EntryGives, ReadsSide, IsReading}
 use Rattle.mask_steps.specs.Held.{MayMeet, GivesAt}
 use Rattle.prune_plan.specs.Accepted.{HasNoCrossPlace}
-use Rattle.prune_plan.specs.Nodes.{IsSceneOf}
+use Rattle.prune_plan.specs.steps.Nodes.{IsPairOf, IsSceneOf}
 use Rattle.prune_plan.proofs.Places.{may_meet}
 
 -- ---- one side
@@ -85,29 +82,26 @@ module _ (stands_for : ℕ → List ℕ → Bool) (pattern : TriplePat) (t : Num
   from_takes (inr (inl h)) = (Predicate, h.0, h.1)
   from_takes (inr (inr h)) = (Object, h.0, h.1)
 
--- what is left of a relation is part of it
-pub left_there : (p : Prepared) (i : ℕ) (e : Entry) (pair : ℕ × ℕ) → slice_get p.entries i ≡ Some e → Contains (lists_left p i) pair → Contains (pairs_of e.rel.lines) pair
-left_there p i e pair at left =
-    let here = subst (λ o. Contains (left_of p o) pair) at left in
-    ((Contains-filter (is_left (words_of p.pool e.rel.first) (words_of p.pool e.rel.second)) (pairs_of e.rel.lines) pair).0 here).0
-
 -- the entry of a place
 one_entry : (p : Prepared) (i : ℕ) (e other : Entry) → slice_get p.entries i ≡ Some e → slice_get p.entries i ≡ Some other → e ≡ other
 one_entry p i e other at at' = let same : Some e ≡ Some other = sym at ∙ at' in cc
+
+of_entry : (p : Prepared) (i : ℕ) (e : Entry) (pair : ℕ × ℕ) → slice_get p.entries i ≡ Some e → IsPairOf p i pair → Contains (pairs_of e.rel.lines) pair
+of_entry p i e pair at is = subst (λ e. Contains (pairs_of e.rel.lines) pair) (one_entry p i is.0 e is.1 at) is.2
 
 entry_fits : (p : Prepared) (i : ℕ) (e : Entry) → All (FitsEntry p) p.entries → slice_get p.entries i ≡ Some e → FitsEntry p e
 entry_fits p i e all at = subst (FitsEntry p) (get_or_from_slice_get p.entries i e e at) (all i e (slice_get_within p.entries i e at))
 
 module _ (tree : List TreeNode) (p : Prepared) (fits : FitsTree tree p) where
   -- an entry of the tree gives a variable one value
-  pub gives_one : HasNoCrossPlace tree → (k : ℕ) (pattern : TriplePat) → StandsAt tree k pattern → (pair : ℕ × ℕ) → Contains (lists_left p (entry_of pattern)) pair → (v x y : ℕ) →
+  pub gives_one : HasNoCrossPlace tree → (k : ℕ) (pattern : TriplePat) → StandsAt tree k pattern → (pair : ℕ × ℕ) → IsPairOf p (entry_of pattern) pair → (v x y : ℕ) →
       GivesAt p (entry_of pattern) pair v x → GivesAt p (entry_of pattern) pair v y → x ≡ y
   gives_one accepted k pattern stands pair left v x y (e, at, gives) (other, at', gives') =
       let i = entry_of pattern in
       let found = fits.entries k pattern stands in
       let same : e ≡ found.0 = one_entry p i e found.0 at found.1.at in
       let same' : other ≡ found.0 = one_entry p i other found.0 at' found.1.at in
-      by found.0 (entry_fits p i found.0 fits.together.entries found.1.at) (left_there p i found.0 pair found.1.at left)
+      by found.0 (entry_fits p i found.0 fits.together.entries found.1.at) (of_entry p i found.0 pair found.1.at left)
       (λ a b first second. may_meet pattern v (accepted k k pattern pattern v stands stands) a b ((found.1.sides a v).1 (inl first)) ((found.1.sides b v).1 (inr second)))
       (subst (λ e. EntryGives p e pair v x) same gives) (subst (λ e. EntryGives p e pair v y) same' gives') where
         by : (e : Entry) → FitsEntry p e → Contains (pairs_of e.rel.lines) pair → ((a b : PlaceKind) → IsSide e.first a v → IsSide e.second b v → MayMeet a b) → EntryGives p e pair v x → EntryGives p e pair v y → x ≡ y
@@ -118,14 +112,14 @@ module _ (tree : List TreeNode) (p : Prepared) (fits : FitsTree tree p) where
 
   module _ (triple : ℕ → ℕ × ℕ → NumberTriple) (reading : IsReading p triple) (stands_for : ℕ → List ℕ → Bool) where
     -- a pair gives what its triple takes
-    pub gives_takes : (k : ℕ) (pattern : TriplePat) → StandsAt tree k pattern → (pair : ℕ × ℕ) → Contains (lists_left p (entry_of pattern)) pair → (v x : ℕ) →
+    pub gives_takes : (k : ℕ) (pattern : TriplePat) → StandsAt tree k pattern → (pair : ℕ × ℕ) → IsPairOf p (entry_of pattern) pair → (v x : ℕ) →
         TakesValue (as_numbers stands_for) pattern (triple (entry_of pattern) pair) v x ↔ GivesAt p (entry_of pattern) pair v x
     gives_takes k pattern stands pair left v x =
         let i = entry_of pattern in
         let found = fits.entries k pattern stands in
         let e = found.0 in
         let t = triple i pair in
-        let there = left_there p i e pair found.1.at left in
+        let there = of_entry p i e pair found.1.at left in
         let first = reading.first i e pair found.1.at there in
         let second = reading.second i e pair found.1.at there in (
           λ takes. (
@@ -159,7 +153,7 @@ module _ (tree : List TreeNode) (p : Prepared) (fits : FitsTree tree p) where
           let pattern = shows.pattern_at i in
           let is = shows.entry_at i k (low, refl) in
           let stands = shows.stands i k (low, refl) in
-          let takes = gives_takes k pattern stands pair (subst (λ i. Contains (lists_left p i) pair) (sym is) left) v x in
+          let takes = gives_takes k pattern stands pair (subst (λ i. IsPairOf p i pair) (sym is) left) v x in
           let here = subst (λ i. TakesValue (as_numbers stands_for) pattern (triple i pair) v x ↔ GivesAt p i pair v x) is takes in
           let gives = shows.gives i pair v x low in
           (λ h. here.0 (gives.0 h), λ h. gives.1 (here.1 h))

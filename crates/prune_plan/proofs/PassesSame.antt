@@ -67,13 +67,16 @@ module _ {M I : Type 0} where
   passes-all agree other alike pairs held held' same m i =
       two_passes-same agree other (λ m. Unit {0}) (λ m i. Unit {0}) (λ m n i j a b c d. alike m n i j) pairs (each_pair pairs) held held' (λ m i some h. tt) (λ m i some. same m i) m i tt
 
-  -- a reduction, the passes over the other pairs, and the reduction back are the passes over all
-  pub passes_by_steps : (agree later last : M → I → M → I → Type 0) → AgreeSame later agree → AgreeSame last agree → (m n : M) (pairs : List (M × M)) (start cut inner end : M → I → Type 0) →
-      HoldSame cut (reduce agree m n start) → HoldSame inner (two_passes later pairs cut) → HoldSame end (reduce last n m inner) → HoldSame end (two_passes agree ((m, n) ∷ pairs) start)
-  passes_by_steps agree later last alike alike' m n pairs start cut inner end first rest back k i =
-      let between : HoldSame inner (two_passes agree pairs (reduce agree m n start)) = λ k i. (
-        λ h. (passes-all later agree alike pairs cut (reduce agree m n start) first k i).0 ((rest k i).0 h),
-        λ h. (rest k i).1 ((passes-all later agree alike pairs cut (reduce agree m n start) first k i).1 h),
+  -- a reduction, the passes over the other pairs, and the reduction back are the passes over all. What members hold that
+  -- are not wanted in between, or not at the end, is not looked at
+  pub passes_by_steps : (agree later last : M → I → M → I → Type 0) → AgreeSame later agree → AgreeSame last agree → (Between AtEnd : M → Type 0) → ((k : M) → AtEnd k → Between k) →
+      (m n : M) → Between n → (pairs : List (M × M)) (start cut inner end : M → I → Type 0) →
+      HoldSame cut (reduce agree m n start) → ((k : M) (i : I) → Between k → inner k i ↔ two_passes later pairs cut k i) → ((k : M) (i : I) → AtEnd k → end k i ↔ reduce last n m inner k i) →
+      (k : M) (i : I) → AtEnd k → end k i ↔ two_passes agree ((m, n) ∷ pairs) start k i
+  passes_by_steps agree later last alike alike' Between AtEnd wider m n by pairs start cut inner end first rest back k i wanted =
+      let between : (k : M) (i : I) → Between k → inner k i ↔ two_passes agree pairs (reduce agree m n start) k i = λ k i some. (
+        λ h. (passes-all later agree alike pairs cut (reduce agree m n start) first k i).0 ((rest k i some).0 h),
+        λ h. (rest k i some).1 ((passes-all later agree alike pairs cut (reduce agree m n start) first k i).1 h),
       ) in
-      let whole = reduce-all last agree alike' n m inner (two_passes agree pairs (reduce agree m n start)) between k i in
-      (λ h. whole.0 ((back k i).0 h), λ h. (back k i).1 (whole.1 h))
+      let whole = reduce-same last agree Between (λ m i. Unit {0}) (λ m n i j a b c d. alike' m n i j) n m by inner (two_passes agree pairs (reduce agree m n start)) (λ m i some h. tt) between k i (wider k wanted) in
+      (λ h. whole.0 ((back k i wanted).0 h), λ h. (back k i wanted).1 (whole.1 h))

@@ -23,7 +23,7 @@ use Rattle.tree_relations.specs.declared.prepared.Prepared.{Prepared}
 use Rattle.tree_relations.specs.Fits.{place_at, FitsTree}
 use Rattle.mask_steps.specs.Held.{MayMeet, IsVarAt}
 use Rattle.prune_plan.specs.Accepted.{HasNoCrossPlace}
-use Rattle.prune_plan.specs.Nodes.{HasPlace, IsParent}
+use Rattle.prune_plan.specs.steps.Nodes.{HasPlace, IsParent}
 
 -- ---- variables at sides
 

@@ -12,8 +12,8 @@ use Rattle.tree_relations.specs.declared.prepared.Prepared.{Prepared}
 use Rattle.tree_relations.specs.Fits.{FitsTree}
 use Rattle.mask_steps.specs.Held.{HasLayoutOf}
 use Rattle.mask_steps.specs.Measure.{Narrows}
-use Rattle.prune_plan.specs.Members.{is_left_of, AreInOrder}
-use Rattle.prune_plan.specs.Nodes.{IsSceneOf, IsLeft, ArePairsOf, IsNodePruned, IsRound}
+use Rattle.prune_plan.specs.steps.Members.{is_left_of, AreInOrder}
+use Rattle.prune_plan.specs.steps.Nodes.{IsSceneOf, IsLeft, ArePairsOf, IsNodePruned, IsRound}
 use Rattle.prune_plan.proofs.Emptying.{pairs_more, round_more}
 use Rattle.prune_plan.proofs.Layouts.{layout_then, in_order_same, in_order_then, narrows_same, narrows_then}
 use Rattle.prune_plan.proofs.NodeLaws.{scene_stays}
@@ -47,7 +47,7 @@ round_node tree old mid new k low before pruned in_order narrows layout =
       pairs = with_node before.pairs k own;
       each = pairs_more tree k before.pairs own before.each pruned.1;
       left = λ scene is. (
-          let here = scene_stays tree scene old mid before.layout before.in_order is in
+          let here = scene_stays tree scene old mid before.layout is in
           let more = round_more tree mid scene here k own pruned.1.each before.pairs (is_left_of old) mid new (before.left scene is) (pruned.2 scene here) in
           let e : suc k ≡ k + 1 = omega arith in
           subst (λ n. IsLeft scene (tree_passes scene (with_node before.pairs k own) n (is_left_of old)) new) e more
@@ -79,7 +79,7 @@ plan_of tree pairs each k low = (each k low).plan
 pub reached_more : (tree : List TreeNode) (old mid new : Prepared) → IsReached tree old mid → IsRound tree mid new → AreInOrder mid new → HasLayoutOf mid new → IsReached tree old new
 reached_more tree old mid new before round in_order layout = record {
   keeps = λ scene is plans each consistent fits within. (
-      let here = scene_stays tree scene old mid before.layout before.in_order is in
+      let here = scene_stays tree scene old mid before.layout is in
       let reached = before.keeps scene is plans each consistent fits within in
       let few : length tree ≤ length scene.parents = omega (arith, is.nodes) in
       λ p t at. (round.2 scene here p t (fits p t at)).1

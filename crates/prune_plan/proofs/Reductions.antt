@@ -5,7 +5,7 @@ use Rattle.join_graph.specs.declared.steps.Step.TheVariants.{Pattern, Variable}
 use Rattle.join_graph.specs.Members.{Member}
 use Rattle.pruning_laws.specs.Passes.{HasPartner, reduce}
 use Rattle.pruning_laws.specs.TreePasses.{Holding, Item, Triple, Value, holding}
-use Rattle.prune_plan.specs.Members.{agrees_by}
+use Rattle.prune_plan.specs.steps.Members.{agrees_by}
 
 module _ (gives : ℕ → ℕ × ℕ → ℕ → ℕ → Type 0) (lists less : Holding (ℕ × ℕ)) (values fewer : ℕ → ℕ → Type 0) (i v : ℕ) where
   abbrev old : Member → Item ℕ (ℕ × ℕ) → Type 0

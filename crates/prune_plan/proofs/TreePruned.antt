@@ -22,8 +22,8 @@ use Rattle.tree_relations.specs.Fits.{FitsTree}
 use Rattle.tree_relations.specs.Readings.{NumberTriple, as_numbers, lists_left, IsReading}
 use Rattle.mask_steps.specs.Held.{HasLayoutOf}
 use Rattle.prune_plan.specs.Accepted.{HasNoCrossPlace}
-use Rattle.prune_plan.specs.Members.{AreInOrder}
-use Rattle.prune_plan.specs.Nodes.{IsSceneOf, IsRound}
+use Rattle.prune_plan.specs.steps.Members.{AreInOrder}
+use Rattle.prune_plan.specs.steps.Nodes.{IsSceneOf, IsRound}
 use Rattle.prune_plan.proofs.CutLists.{cut, cut-low}
 use Rattle.prune_plan.proofs.Greatest.{unchanged_greatest, forest_greatest}
 use Rattle.prune_plan.proofs.PairScenes.{scene_of_shows}

@@ -1,3 +1,2 @@
 pub mod Accepted
-pub mod Members
-pub mod Nodes
+pub mod steps

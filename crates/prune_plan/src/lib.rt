@@ -10,5 +10,6 @@ mod nodes;
 mod passes;
 mod rounds;
 mod starts;
+mod wanted;
 
 pub use rounds::prune;

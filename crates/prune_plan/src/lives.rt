@@ -5,8 +5,8 @@ ghost use Rattle.tree_relations.specs.Fits.{FitsTree};
 ghost use Rattle.tree_relations.specs.Readings.{lists_left};
 ghost use Rattle.mask_steps.specs.Held.{HasLayoutOf};
 ghost use Rattle.mask_steps.specs.Measure.{Narrows};
-ghost use Rattle.prune_plan.specs.Members.{AreInOrder};
-ghost use Rattle.prune_plan.specs.Nodes.{HasPlace, IsAlive, IsNodeFilled};
+ghost use Rattle.prune_plan.specs.steps.Members.{AreInOrder};
+ghost use Rattle.prune_plan.specs.steps.Nodes.{HasPlace, IsAlive, IsNodeFilled};
 
 use crate::nodes::{parent_of, patterns_of};
 use mask_steps::{clear, is_left};

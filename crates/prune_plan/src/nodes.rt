@@ -3,7 +3,7 @@
 ghost use Rattle.std.specs.Prelude.{◌≡◌, ◌↔◌, ◌<◌, All, ℕ, length, slice_get, Some};
 ghost use Rattle.node_plans.specs.Placed.{IsPlaced};
 ghost use Rattle.pattern_tree.specs.Tree.{TreeNode};
-ghost use Rattle.prune_plan.specs.Nodes.{IsParent};
+ghost use Rattle.prune_plan.specs.steps.Nodes.{IsParent};
 
 use pattern_tree::{PatRefs, Tree};
 

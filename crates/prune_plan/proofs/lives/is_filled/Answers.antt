@@ -3,7 +3,7 @@ use Rattle.std.proofs.lemmas.Bool.{cases_eq}
 use Rattle.std.proofs.lemmas.Option.{get_or_from_slice_get}
 use Rattle.pruning_laws.specs.Shown.{entry_of}
 use Rattle.pruning_laws.specs.TreePasses.{IsFilled}
-use Rattle.prune_plan.specs.Members.{is_left_of}
+use Rattle.prune_plan.specs.steps.Members.{is_left_of}
 use Rattle.prune_plan.proofs.Clearing.{filled_all, stands_there}
 use Rattle.prune_plan.proofs.Places.{has_entry}
 use Rattle.prune_plan.proofs.lives.is_filled.Goals as goal

@@ -2,7 +2,7 @@ use Rattle.std.proofs.Common.{◌↔◌, sym, subst, Contains}
 use Rattle.join_graph.specs.declared.steps.Step.TheVariants.{Pattern, Variable}
 use Rattle.pruning_laws.specs.Passes.{reduce}
 use Rattle.mask_steps.specs.Held.{HasValue, GivesAt}
-use Rattle.prune_plan.specs.Members.{is_left_of, held_by, agrees_in}
+use Rattle.prune_plan.specs.steps.Members.{is_left_of, held_by, agrees_in}
 use Rattle.prune_plan.proofs.Layouts.{in_order_same, in_order_one, lists_same}
 use Rattle.prune_plan.proofs.Reductions.{gathered, spread_out}
 use Rattle.prune_plan.proofs.passes.reduce.Goals as goal

@@ -1,7 +1,7 @@
 use Rattle.std.proofs.Common.{sym, ◌∙◌}
 use Rattle.join_graph.specs.declared.steps.Step.TheVariants.{Pattern}
 use Rattle.pruning_laws.specs.TreePasses.{Triple, at_end}
-use Rattle.prune_plan.specs.Members.{is_left_of}
+use Rattle.prune_plan.specs.steps.Members.{is_left_of}
 use Rattle.prune_plan.proofs.Emptying.{alive_stays, dead_emptied}
 use Rattle.prune_plan.proofs.Layouts.{in_order_then, tree_fits}
 use Rattle.prune_plan.proofs.rounds.prune_node.Goals as goal

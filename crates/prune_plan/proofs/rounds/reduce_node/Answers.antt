@@ -1,4 +1,6 @@
 use Rattle.prune_plan.proofs.Layouts.{in_order_same, in_order_then, tree_fits}
+use Rattle.join_graph.specs.declared.steps.Step.TheVariants.{Pattern}
+use Rattle.pruning_laws.specs.TreePasses.{Triple}
 use Rattle.prune_plan.proofs.NodeReduced.{pair_sides, node_reduced}
 use Rattle.prune_plan.proofs.rounds.reduce_node.Goals as goal
 
@@ -16,7 +18,7 @@ returns-clause-reduced c =
       pairs,
       record { plan = c.node_pairs-pairs.ensures.plan; forest = c.node_pairs-pairs.ensures.forest; each = c.node_pairs-pairs.ensures.each },
       λ scene is. node_reduced tree c.args.prepared.now scene is c.args.node pairs c.node_pairs-pairs.ensures.each c.requires.node c.first_values-kinds.new.prepared c.take_passes.new.prepared c.first_values-kinds.result c.take_passes.new.kinds
-          c.first_values-kinds.ensures.layout c.first_values-kinds.ensures.lists c.first_values-kinds.ensures.values c.take_passes.ensures.held,
+          c.first_values-kinds.ensures.layout c.first_values-kinds.ensures.lists (c.first_values-kinds.ensures.values scene is) (λ i pair. c.take_passes.ensures.held (Pattern i) (Triple pair) tt),
     )
 
 pub returns-clause-in_order : goal.returns-clause-in_order

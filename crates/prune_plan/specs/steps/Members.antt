@@ -1,6 +1,6 @@
--- What members hold where their items are pairs of relations and their values are in working masks, and the steps that
--- passes take on them.
-use Rattle.std.specs.Prelude.{◌≡◌, ◌<◌, ℕ, Bool, List, Option, Contains, filter}
+-- Carries proofs only: what members hold where their items are pairs of relations and their values are in working masks, and the
+-- steps that passes take on them.
+use Rattle.std.specs.Prelude.{◌≡◌, ◌⊎◌, ◌<◌, ℕ, Bool, List, Option, Some, Contains, filter, slice_get}
 use Rattle.join_graph.specs.declared.steps.Step.TheVariants.{Pattern, Variable}
 use Rattle.join_graph.specs.Members.{Member}
 use Rattle.pruning_laws.specs.TreePasses.{Item, Triple, Value, holding}
@@ -41,3 +41,12 @@ AreSides p (Variable v) (Variable w) = ⊥
 -- each list is what a test leaves of the other, in its order
 abbrev pub AreInOrder : Prepared → Prepared → Type 0
 AreInOrder old new = (i : ℕ) → (test : ℕ × ℕ → Bool) × (lists_left new i ≡ filter test (lists_left old i))
+
+-- the member stands in one of the first i pairs
+abbrev pub StandsBefore : List (Member × Member) → ℕ → Member → Type 0
+StandsBefore pairs i m = (k : ℕ) × (k < i) × ((n : Member) × ((slice_get pairs k ≡ Some (m, n)) ⊎ (slice_get pairs k ≡ Some (n, m))))
+
+-- what it holds after the passes over the pairs from the i-th on is looked at: it is a triple pattern, or stands in an earlier pair
+abbrev pub IsWanted : List (Member × Member) → ℕ → Member → Type 0
+IsWanted pairs i (Pattern p) = Unit {0}
+IsWanted pairs i (Variable v) = StandsBefore pairs i (Variable v)
