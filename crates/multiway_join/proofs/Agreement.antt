@@ -1,8 +1,8 @@
 -- The pairs that have what a row asks for are all that can agree with it.
-use Rattle.std.proofs.Common.{◌≡◌, ◌≢◌, ◌⊎◌, ℕ, ◌+◌, ◌<◌, ◌&&◌, inl, inr, Bool, true, false, List, [], ◌∷◌, length, get_or, set, filter, Contains, Option, Some, None, refl, sym, ◌∙◌, ap, subst, eqb-true, eq-eqb, arith}
+use Rattle.std.proofs.Common.{◌≡◌, ◌≢◌, ℕ, ◌+◌, ◌&&◌, inl, inr, Bool, true, false, List, [], ◌∷◌, get_or, set, filter, Contains, Option, Some, None, refl, sym, ◌∙◌, ap, subst, eq-eqb}
 use Rattle.std.specs.Prelude.{◌==◌}
 use Rattle.std.specs.List.{filter_map}
-use Rattle.std.proofs.lemmas.Bool.{cases_Bool, cases_eq, and_from}
+use Rattle.std.proofs.lemmas.Bool.{cases_Bool}
 use Rattle.std.proofs.lemmas.List.{get_or-set_other}
 use Rattle.pattern_rel.proofs.PairLaws.{Contains-filter}
 use Rattle.tree_relations.specs.declared.prepared.Entry.{Entry}
@@ -78,7 +78,7 @@ module _ (prepared : Prepared) where
 
     second_none : (pair : ℕ × ℕ) → bind_side prepared e.second pair.1 row ≡ None → bind_pair prepared e row pair ≡ None
     second_none pair none = either (bind_side prepared e.first pair.0 row) refl
-        where
+      where
         either : (o : Option (List ℕ)) → bind_side prepared e.first pair.0 row ≡ o → bind_next prepared e.second pair.1 o ≡ None
         either None is = refl
         either (Some longer) is = side_still_none e.first e.second pair.0 pair.1 row longer none is

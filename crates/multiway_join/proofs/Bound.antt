@@ -1,5 +1,5 @@
 -- What a pair binds in a row of cells, seen as a row of values: the values that it gives, and nothing else.
-use Rattle.std.proofs.Common.{◌≡◌, ◌≢◌, ◌⊎◌, ℕ, zero, suc, ◌+◌, ◌<◌, inl, inr, Bool, true, false, List, length, map, get_or, set, Option, Some, None, refl, sym, ◌∙◌, ap, subst, eqb-true, eq-eqb, add-one, arith}
+use Rattle.std.proofs.Common.{◌≡◌, ◌≢◌, ◌⊎◌, ℕ, zero, suc, ◌+◌, ◌<◌, inl, inr, true, false, List, length, get_or, set, Option, Some, None, refl, sym, ◌∙◌, ap, subst, eqb-true, eq-eqb, arith}
 use Rattle.std.specs.Prelude.{◌==◌}
 use Rattle.std.proofs.Math.ListN.{get_or-map}
 use Rattle.std.proofs.lemmas.Bool.{cases_Bool, cases_eq}
@@ -63,10 +63,11 @@ module _ (var value : ℕ) (row : List ℕ) where
     ];
   }
     where
-    longer : List ℕ
-    longer = set row var (value + 1)
-    elsewhere : (k : ℕ) → k ≢ var → binding (row_of longer) k ≡ binding (row_of row) k
-    elsewhere k other = binding_cell longer k ∙ ap cell_of (get_or-set_other row var k (value + 1) 0 other) ∙ sym (binding_cell row k)
+      longer : List ℕ
+      longer = set row var (value + 1)
+
+      elsewhere : (k : ℕ) → k ≢ var → binding (row_of longer) k ≡ binding (row_of row) k
+      elsewhere k other = binding_cell longer k ∙ ap cell_of (get_or-set_other row var k (value + 1) 0 other) ∙ sym (binding_cell row k)
 
   -- where the value is bound
   put_same : get_or row var 0 ≡ value + 1 → IsBoundBy One (row_of row) (row_of row)

@@ -1,8 +1,7 @@
 -- The search over rows of cells, as rows of values: it lists the flat rows.
-use Rattle.std.proofs.Common.{◌≡◌, ℕ, zero, suc, ◌+◌, ◌^◌, ◌<◌, ◌≤◌, ◌++◌, ◌==◌, ◌||◌, inl, inr, Bool, true, false, if◌then◌else◌, List, [], ◌∷◌, length, map, flat_map, replicate, All, Contains, Option, Some, None, IfSome, refl, sym, ◌∙◌, ap, subst, arith, append-nil, append_assoc}
+use Rattle.std.proofs.Common.{◌≡◌, ℕ, zero, suc, ◌+◌, ◌^◌, ◌++◌, ◌==◌, ◌||◌, inl, inr, Bool, true, false, if◌then◌else◌, List, [], ◌∷◌, length, map, flat_map, replicate, All, Option, Some, None, IfSome, refl, sym, ◌∙◌, ap, subst, arith, append-nil}
 use Rattle.std.specs.Int.{bit_at}
 use Rattle.std.specs.Int.Bits.{bit_or}
-use Rattle.std.specs.List.{filter_map}
 use Rattle.std.specs.Prelude.{slice_get, slice_index, slice_set}
 use Rattle.std.proofs.lemmas.Bool.{cases_eq, eq-eqb, ne_eqb}
 use Rattle.std.proofs.lemmas.Nat.Bits.{bit_at_or, bit_at-lt, bit_at-pow_same, bit_at-pow_other}
@@ -15,7 +14,7 @@ use Rattle.alg_model.specs.Row.{Row, unbound}
 use Rattle.alg_model.proofs.Lists.{All-filter_map}
 use Rattle.alg_model.specs.Eval.{Interpretation}
 use Rattle.pruning_laws.specs.Shown.{entry_of}
-use Rattle.pattern_tree.specs.FlatTable.{cell_of, row_of}
+use Rattle.pattern_tree.specs.FlatTable.{row_of}
 use Rattle.pattern_tree.specs.Solution.{Family}
 use Rattle.pattern_tree.specs.Tree.{TreeNode}
 use Rattle.tree_relations.specs.declared.prepared.Prepared.{Prepared}

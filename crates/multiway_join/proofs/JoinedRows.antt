@@ -1,6 +1,5 @@
 -- The rows of cells that the search lists are the flat rows over what is prepared.
-use Rattle.std.proofs.Common.{◌≡◌, ℕ, ◌<◌, ◌++◌, Bool, List, [], length, map, get_or, All, Contains, refl, sym, ◌∙◌, ap, subst}
-use Rattle.std.specs.Prelude.{slice_get}
+use Rattle.std.proofs.Common.{◌≡◌, ℕ, ◌++◌, Bool, List, [], map, get_or, All, ◌∙◌, ap}
 use Rattle.std.proofs.lemmas.List.Elements.{Contains-get_or}
 use Rattle.std.proofs.lemmas.Option.{slice_get-get_or}
 use Rattle.pattern_tree.specs.FlatTable.{FlatTable, row_of}

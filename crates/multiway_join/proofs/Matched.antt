@@ -1,27 +1,25 @@
 -- The pairs of a relation continue a row of cells as the triples that they stand for continue the row of values.
-use Rattle.std.proofs.Common.{◌≡◌, ◌≢◌, ◌⊎◌, ℕ, ◌<◌, ◌++◌, inl, inr, Bool, true, false, List, [], ◌∷◌, length, map, Contains, Option, Some, None, IsTrue, IsSome, option_to_list, refl, sym, ◌∙◌, ap, subst, eqb-true, eq-eqb, arith}
-use Rattle.std.specs.Prelude.{◌==◌, slice_get}
+use Rattle.std.proofs.Common.{◌≡◌, ℕ, ◌<◌, ◌++◌, inl, inr, Bool, List, [], ◌∷◌, length, map, Contains, Option, Some, None, IsTrue, option_to_list, refl, sym, ◌∙◌, ap, subst, eqb-true, eq-eqb}
+use Rattle.std.specs.Prelude.{◌==◌}
 use Rattle.std.specs.Option.{option_map}
 use Rattle.std.specs.List.{cons_option, filter_map}
 use Rattle.std.proofs.lemmas.List.{length-map}
 use Rattle.std.proofs.lemmas.List.Elements.{Contains-append_cases}
-use Rattle.std.proofs.lemmas.Option.{none-some, same_Some}
+use Rattle.std.proofs.lemmas.Option.{none-some}
 use Rattle.bm_term.proofs.Elements.{Contains-head, Contains-tail, Contains-nil, Contains-single}
 use Rattle.alg_model.specs.declared.pattern.Place.{Place}
 use Rattle.alg_model.specs.declared.pattern.Place.TheVariants as places
 use Rattle.alg_model.specs.declared.pattern.TriplePat.{TriplePat}
-use Rattle.alg_model.specs.Eval.{Interpretation, match_of, matches_of}
+use Rattle.alg_model.specs.Eval.{match_of}
 use Rattle.alg_model.specs.Pattern.{IsVar, place_vars, triple_vars}
 use Rattle.alg_model.specs.Row.{Row, binding, both_rows, merged}
 use Rattle.alg_model.specs.Solution.{Becomes, Makes, TellsValues}
 use Rattle.alg_model.proofs.BasicPatterns.{rows_of_match}
-use Rattle.alg_model.proofs.Cells.{cases_Option, value_from_IsSome, IsSome-from_value, IsUnion, union_from_merged, merged_from_union}
+use Rattle.alg_model.proofs.Cells.{cases_Option, IsSome-from_value, IsUnion, union_from_merged, merged_from_union}
 use Rattle.alg_model.proofs.Joins.{cut, width-cut, cut_inside, cut_value, cut_binds, IsRowOf, AreRowsOf}
 use Rattle.alg_model.proofs.Lists.{Contains-option, option-Contains}
 use Rattle.alg_model.proofs.Width.{HasWidth}
 use Rattle.pattern_tree.specs.FlatTable.{cell_of, row_of}
-use Rattle.pattern_tree.specs.Standing.{StandsAt}
-use Rattle.pattern_tree.specs.Tree.{TreeNode}
 use Rattle.pruning_laws.specs.Shown.{entry_of, shown}
 use Rattle.tree_relations.specs.declared.prepared.Entry.{Entry}
 use Rattle.tree_relations.specs.declared.prepared.PlaceKind.{PlaceKind}
@@ -30,9 +28,8 @@ use Rattle.tree_relations.specs.declared.prepared.Prepared.{Prepared}
 use Rattle.tree_relations.specs.declared.prepared.SidePlace.{SidePlace}
 use Rattle.tree_relations.specs.Fits.{place_at, IsSide, IsEntryOf}
 use Rattle.tree_relations.specs.Prepared.{FitsTogether}
-use Rattle.tree_relations.specs.Readings.{NumberTriple, part_at, as_numbers, value_of, lists_left, left_of, EntryGives, SideGives, ReadsSide, IsReading}
+use Rattle.tree_relations.specs.Readings.{NumberTriple, part_at, as_numbers, lists_left, left_of, EntryGives, SideGives, ReadsSide, IsReading}
 use Rattle.multiway_join.specs.FlatRows.{continued}
-use Rattle.multiway_join.specs.Joined.{HaveTerms}
 use Rattle.multiway_join.specs.steps.Binding.{bind_pair, continued_by, continued_row, CanJoin, HasCell, IsReady}
 use Rattle.multiway_join.proofs.Bound.{IsBoundBy, pair_bound, pair_agrees}
 use Rattle.multiway_join.proofs.Ready.{var_of_triple, is_ready, left_of_lines}
@@ -149,8 +146,10 @@ module _ (p : Prepared) (n : ℕ) (stands_for : ℕ → List ℕ → Bool) (patt
       where
         width : HasWidth n (row_of row)
         width = length-map row cell_of ∙ wide
+
         are : AreRowsOf n (triple_vars pattern) (λ row. Makes (as_numbers stands_for) row pattern t) (option_to_list (match_of (as_numbers stands_for) n pattern t))
         are = rows_of_match (as_numbers stands_for) (tells_numbers stands_for) n pattern t below
+
         -- no row where the pair agrees with none
         none : bind_pair p e row pair ≡ None → (o : Option (Row ℕ)) → match_of (as_numbers stands_for) n pattern t ≡ o → both_rows ◌==◌ (Some (row_of row)) o ≡ None
         none is None found = refl
@@ -161,6 +160,7 @@ module _ (p : Prepared) (n : ℕ) (stands_for : ℕ → List ℕ → Bool) (patt
               absurd (pair_agrees p e pair row first_cell second_cell some.0 (bound_by_match (row_of row) s some.0 width own union.0 union.1) is)
           | inr unbound ↦ unbound
         ]
+
         by : (o : Option (List ℕ)) → bind_pair p e row pair ≡ o → option_map row_of o ≡ both_rows ◌==◌ (Some (row_of row)) (match_of (as_numbers stands_for) n pattern t)
         by None is = sym (none is (match_of (as_numbers stands_for) n pattern t) refl)
         by (Some q) is =
@@ -170,7 +170,7 @@ module _ (p : Prepared) (n : ℕ) (stands_for : ℕ → List ℕ → Bool) (patt
             let found : match_of (as_numbers stands_for) n pattern t ≡ Some s = option-Contains (match_of (as_numbers stands_for) n pattern t) s (are.complete s own) in
             let union = union_of_match (row_of row) (row_of q) width bound in
             let merges : merged ◌==◌ (row_of row) s ≡ Some (row_of q) =
-                merged_from_union ◌==◌ (tells_numbers stands_for) n (row_of row) s (row_of q) width own.width (long (row_of row) (row_of q) width bound) union in
+            merged_from_union ◌==◌ (tells_numbers stands_for) n (row_of row) s (row_of q) width own.width (long (row_of row) (row_of q) width bound) union in
             sym (ap (λ (o : Option (Row ℕ)). both_rows ◌==◌ (Some (row_of row)) o) found ∙ merges)
 
 -- ---- lists of pairs
@@ -204,12 +204,16 @@ continued_same p n stands_for triple pattern row fits reading terms can wide =
   where
     e : Entry
     e = can.entry
+
     i : ℕ
     i = entry_of pattern
+
     ready : IsReady p (length row) can.entry
     ready = subst (λ (width : ℕ). IsReady p width can.entry) (sym wide) (is_ready p n pattern can.entry fits can can.at.at)
+
     left_here : (pair : ℕ × ℕ) → Contains (left_of p (Some can.entry)) pair → Contains (lists_left p (entry_of pattern)) pair
     left_here pair at = subst (λ (o : Option Entry). Contains (left_of p o) pair) (sym can.at.at) at
+
     each : (pair : ℕ × ℕ) → Contains (left_of p (Some can.entry)) pair → option_map row_of (bind_pair p can.entry row pair) ≡ both_rows ◌==◌ (Some (row_of row)) (match_of (as_numbers stands_for) n pattern (triple (entry_of pattern) pair))
     each pair at =
         let among = left_of_lines p can.entry pair at in

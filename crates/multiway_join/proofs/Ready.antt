@@ -1,5 +1,5 @@
 -- A triple pattern that can be joined has a relation that can be walked.
-use Rattle.std.proofs.Common.{◌≡◌, ◌⊎◌, ℕ, ◌<◌, ◌++◌, inl, inr, List, [], ◌∷◌, Contains, Option, Some, None, refl, sym, ◌∙◌, subst}
+use Rattle.std.proofs.Common.{◌≡◌, ℕ, ◌<◌, ◌++◌, inl, inr, [], ◌∷◌, Contains, Option, Some, None, refl, subst}
 use Rattle.std.specs.Prelude.{slice_get}
 use Rattle.std.specs.List.{flat_map}
 use Rattle.std.proofs.lemmas.List.Elements.{All-contains, Contains-get_or, Contains-append_left, Contains-append_right}
@@ -15,7 +15,7 @@ use Rattle.mask_pool.specs.Mask.{Stretch}
 use Rattle.mask_pool.specs.Region.{words_of}
 use Rattle.pattern_rel.specs.declared.side.Side.TheVariants.{First, Second}
 use Rattle.pattern_rel.specs.Folds.{IsUsable}
-use Rattle.pattern_rel.specs.Left.{IsAtSide, pairs_left, is_left}
+use Rattle.pattern_rel.specs.Left.{pairs_left, is_left}
 use Rattle.pattern_rel.proofs.PairLaws.{Contains-filter}
 use Rattle.pruning_laws.specs.Shown.{entry_of}
 use Rattle.tree_relations.specs.declared.prepared.Entry.{Entry}
@@ -24,7 +24,7 @@ use Rattle.tree_relations.specs.declared.prepared.PlaceKind.TheVariants.{Subject
 use Rattle.tree_relations.specs.declared.prepared.Prepared.{Prepared}
 use Rattle.tree_relations.specs.declared.prepared.SidePlace.{SidePlace}
 use Rattle.tree_relations.specs.Fits.{place_at, IsSide, IsEntryOf}
-use Rattle.tree_relations.specs.Prepared.{FitsTogether, FitsEntry, FitsPlace, count_of, masks_of}
+use Rattle.tree_relations.specs.Prepared.{FitsTogether, FitsEntry, FitsPlace, masks_of}
 use Rattle.multiway_join.specs.steps.Binding.{HasCell, HasNumber, CanJoin, IsReady}
 
 -- a variable at a place is one of the triple pattern's

@@ -1,9 +1,9 @@
 -- Cells that are put back: a row is as it was.
-use Rattle.std.proofs.Common.{◌≡◌, ◌≢◌, ℕ, ◌<◌, inl, inr, List, length, get_or, set, Option, Some, None, refl, sym, ◌∙◌, ap, subst}
+use Rattle.std.proofs.Common.{◌≡◌, ◌≢◌, ℕ, inl, inr, List, get_or, set, Option, Some, None, sym, ◌∙◌, ap, subst}
 use Rattle.std.proofs.lemmas.Bool.{cases_eq}
-use Rattle.std.proofs.lemmas.List.{set-set, set-get_or, get_or-set_same, get_or-set_other}
+use Rattle.std.proofs.lemmas.List.{set-set, set-get_or, get_or-set_other}
 use Rattle.tree_relations.specs.declared.prepared.SidePlace.{SidePlace}
-use Rattle.multiway_join.specs.steps.Binding.{cell_at, with_cell, HasCell}
+use Rattle.multiway_join.specs.steps.Binding.{cell_at, with_cell}
 
 -- the one cell that was written is put back
 pub restored_cell : (v cell : ℕ) (row : List ℕ) → set (set row v cell) v (get_or row v 0) ≡ row

@@ -11,8 +11,6 @@ use Rattle.pattern_tree.specs.Tree.{TreeNode}
 use Rattle.tree_relations.specs.declared.prepared.Prepared.{Prepared}
 use Rattle.multiway_join.specs.declared.order.JoinNode.{JoinNode}
 use Rattle.multiway_join.specs.declared.order.JoinPattern.{JoinPattern}
-use Rattle.multiway_join.specs.declared.cursor.Agreeing.{Agreeing}
-use Rattle.multiway_join.specs.steps.Cursor.{coming}
 use Rattle.multiway_join.specs.steps.Search.{Lists, ListsPair, ListsAll, as_node, patterns_in, holds_parent, cells_from, cells_within}
 
 -- how many steps deep the search of some nodes goes at most
@@ -37,7 +35,7 @@ lists_more live [] row any a b c before more = (refl, subst (λ (rows : List (Li
 lists_more live (r ∷ rs) row any a b c before more = (
   refl,
   subst (λ (rows : List (List ℕ)). Lists rows a c) (sym (flat_map-append live (r ∷ rs) (row ∷ []) ∙ ap (λ (rows : List (List ℕ)). flat_map live (r ∷ rs) ++ rows) (append-nil (live row))))
-  (lists_then (flat_map live (r ∷ rs)) (live row) a b c before.1 more),
+      (lists_then (flat_map live (r ∷ rs)) (live row) a b c before.1 more),
 )
 
 -- and of none more
@@ -92,9 +90,10 @@ module _ (live : List ℕ → List (List ℕ)) (bind : ℕ × ℕ → Option (Li
   pub steps_true : (pairs rest : List (ℕ × ℕ)) (pair : ℕ × ℕ) (any one : Bool) (now new : FlatTable) → pairs ≡ pair ∷ rest → IsUnderWay live bind all pairs any old now → ListsPair live (bind pair) one now new → one ≡ true →
       IsUnderWay live bind all rest true old new
   steps_true pairs rest pair any one now new is before more yes_one = by (bind pair) refl more
-      where
+    where
       state : IsUnderWay live bind all (pair ∷ rest) any old now
       state = subst (λ (ps : List (ℕ × ℕ)). IsUnderWay live bind all ps any old now) is before
+
       by : (o : Option (List ℕ)) → bind pair ≡ o → ListsPair live o one now new → IsUnderWay live bind all rest true old new
       by None e more = absurd (let f = more.0 in cc)
       by (Some row) e more = (past_some rest pair any one now new state row e more).1
@@ -102,9 +101,10 @@ module _ (live : List ℕ → List (List ℕ)) (bind : ℕ × ℕ → Option (Li
   pub steps_false : (pairs rest : List (ℕ × ℕ)) (pair : ℕ × ℕ) (any one : Bool) (now new : FlatTable) → pairs ≡ pair ∷ rest → IsUnderWay live bind all pairs any old now → ListsPair live (bind pair) one now new → one ≡ false →
       IsUnderWay live bind all rest any old new
   steps_false pairs rest pair any one now new is before more no_one = by (bind pair) refl more
-      where
+    where
       state : IsUnderWay live bind all (pair ∷ rest) any old now
       state = subst (λ (ps : List (ℕ × ℕ)). IsUnderWay live bind all ps any old now) is before
+
       by : (o : Option (List ℕ)) → bind pair ≡ o → ListsPair live o one now new → IsUnderWay live bind all rest any old new
       by None e more = (past_none rest pair any one now new state e more).1
       by (Some row) e more = absurd (let f = more.0 in cc)

@@ -1,8 +1,8 @@
 -- Pairs that are asked for one after the other, and those that have what is asked for.
-use Rattle.std.proofs.Common.{◌≡◌, ◌≢◌, ◌⊎◌, ℕ, ◌<◌, ◌&&◌, inl, inr, Bool, true, false, List, [], ◌∷◌, map, filter, find, Contains, Option, Some, None, MatchOption, refl, sym, ◌∙◌, ap, subst, eqb-true, eq-eqb, arith}
+use Rattle.std.proofs.Common.{◌≡◌, ℕ, ◌&&◌, inl, inr, Bool, true, false, List, [], ◌∷◌, map, filter, find, Contains, Option, Some, None, refl, sym, ◌∙◌, ap, subst, eqb-true, arith}
 use Rattle.std.specs.Prelude.{◌==◌}
 use Rattle.std.specs.Option.{option_map}
-use Rattle.std.proofs.lemmas.Bool.{cases_Bool, both_ways, and_parts, and_from}
+use Rattle.std.proofs.lemmas.Bool.{cases_Bool, and_parts}
 use Rattle.bm_term.proofs.Elements.{Contains-head, Contains-tail}
 use Rattle.cube_slices.specs.Pairs.{ComesBefore, PairsAscend}
 use Rattle.pattern_rel.specs.declared.bound.Bound.{Bound}
@@ -118,7 +118,7 @@ next_wanted rows columns bound last (q ∷ qs) p ascend found =
 -- what is found is None or a pair as the code has it
 pub asked_none : (bound : Bound) (last : Option Pair) (ps : List (ℕ × ℕ)) → None ≡ option_map as_pair (find (is_wanted bound last) ps) → filter (is_wanted bound last) ps ≡ []
 asked_none bound last ps is = found_none (is_wanted bound last) ps (none (find (is_wanted bound last) ps) is)
-    where
+  where
     none : (o : Option (ℕ × ℕ)) → None ≡ option_map as_pair o → o ≡ None
     none None is = refl
     none (Some p) is = absurd (cc)
@@ -126,7 +126,7 @@ asked_none bound last ps is = found_none (is_wanted bound last) ps (none (find (
 pub asked_some : (rows columns : ℕ) (bound : Bound) (last : Option Pair) (ps : List (ℕ × ℕ)) (pair : Pair) → PairsAscend rows columns ps → Some pair ≡ option_map as_pair (find (is_wanted bound last) ps) →
     filter (is_wanted bound last) ps ≡ (pair.first, pair.second) ∷ filter (is_wanted bound (Some pair)) ps
 asked_some rows columns bound last ps pair ascend is = some (find (is_wanted bound last) ps) refl is
-    where
+  where
     some : (o : Option (ℕ × ℕ)) → find (is_wanted bound last) ps ≡ o → Some pair ≡ option_map as_pair o → filter (is_wanted bound last) ps ≡ (pair.first, pair.second) ∷ filter (is_wanted bound (Some pair)) ps
     some None found is = absurd (cc)
     some (Some p) found is =
@@ -142,7 +142,7 @@ one_asked rows columns first second ps pair ascend is =
     let bound : Bound = record { first = Some first; second = Some second } in
     let whole = asked_some rows columns bound None ps pair ascend is in
     let wanted : Contains (filter (is_wanted bound None) ps) (pair.first, pair.second) =
-        subst (λ (qs : List (ℕ × ℕ)). Contains qs (pair.first, pair.second)) (sym whole) (Contains-head (pair.first, pair.second) (filter (is_wanted bound (Some pair)) ps)) in
+    subst (λ (qs : List (ℕ × ℕ)). Contains qs (pair.first, pair.second)) (sym whole) (Contains-head (pair.first, pair.second) (filter (is_wanted bound (Some pair)) ps)) in
     let has = (Contains-filter (is_wanted bound None) ps (pair.first, pair.second)).1 in
     let at = (Contains-filter (is_wanted bound None) ps (pair.first, pair.second)).0 wanted in
     let numbers = and_parts (first == pair.first) (second == pair.second) (and_parts (first == pair.first && second == pair.second) true at.1).0 in
@@ -150,7 +150,7 @@ one_asked rows columns first second ps pair ascend is =
     let b : second ≡ pair.second = eqb-true second pair.second numbers.1 in
     sym (same_filter (λ p. is_asked_for (This first) p.0 && is_asked_for (This second) p.1) (is_wanted bound None) ps (λ p at. sym (and_yes (first == p.0 && second == p.1)))
     ∙ whole ∙ ap (λ (qs : List (ℕ × ℕ)). (pair.first, pair.second) ∷ qs) (filter_none (is_wanted bound (Some pair)) ps (λ r there. behind a b r)))
-    where
+  where
     -- one with the same numbers is not behind it
     behind : first ≡ pair.first → second ≡ pair.second → (r : ℕ × ℕ) → is_wanted (record { first = Some first; second = Some second }) (Some pair) r ≡ false
     behind a b r = elim (cases_Bool (is_wanted (record { first = Some first; second = Some second }) (Some pair) r)) as (λ _. is_wanted (record { first = Some first; second = Some second }) (Some pair) r ≡ false) [

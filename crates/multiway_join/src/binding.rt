@@ -160,7 +160,12 @@ pub(crate) fn restore(entry: &Entry<'_>, cells: Saved, row: &mut [u32])
 
 /// Binds the variables of an entry to what a pair gives them, if the row agrees.
 #[tactic(auto, using(crate::proofs::Restoring::restored_sides))]
-pub(crate) fn bind_both(prepared: &Prepared<'_>, entry: &Entry<'_>, pair: (u32, u32), row: &mut [u32]) -> bool
+pub(crate) fn bind_both(
+    prepared: &Prepared<'_>,
+    entry: &Entry<'_>,
+    pair: (u32, u32),
+    row: &mut [u32],
+) -> bool
     requires together { FitsTogether prepared.now }
     requires first_number { HasNumber prepared.now entry.now.first pair.0 }
     requires second_number { HasNumber prepared.now entry.now.second pair.1 }

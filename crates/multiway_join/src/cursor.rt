@@ -133,7 +133,12 @@ fn one<'s, 'a>(rel: &'s PatRel<'a>, pool: &'s MaskPool, first: u32, second: u32)
 
 /// The pairs left that have what is asked for at both sides.
 #[tactic(auto, using(crate::proofs::Wanted::asked_pairs))]
-fn asked_for<'s, 'a>(rel: &'s PatRel<'a>, pool: &'s MaskPool, first: Asked, second: Asked) -> Agreeing<'s, 'a>
+fn asked_for<'s, 'a>(
+    rel: &'s PatRel<'a>,
+    pool: &'s MaskPool,
+    first: Asked,
+    second: Asked,
+) -> Agreeing<'s, 'a>
     requires firsts { IsUsable pool.now rel.now.first }
     requires seconds { IsUsable pool.now rel.now.second }
     ensures { HasAsked (pairs_left pool.now rel.now) first second (coming result) }
@@ -149,7 +154,11 @@ fn asked_for<'s, 'a>(rel: &'s PatRel<'a>, pool: &'s MaskPool, first: Asked, seco
 }
 
 /// The pairs left of an entry that can agree with a row.
-pub(crate) fn agreeing_with<'s, 'a>(prepared: &'s Prepared<'a>, entry: &'s Entry<'a>, row: &[u32]) -> Agreeing<'s, 'a>
+pub(crate) fn agreeing_with<'s, 'a>(
+    prepared: &'s Prepared<'a>,
+    entry: &'s Entry<'a>,
+    row: &[u32],
+) -> Agreeing<'s, 'a>
     requires together { FitsTogether prepared.now }
     requires firsts { IsUsable prepared.now.pool entry.now.rel.first }
     requires seconds { IsUsable prepared.now.pool entry.now.rel.second }

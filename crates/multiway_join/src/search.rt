@@ -134,7 +134,9 @@ pub(crate) fn within(
         None => from_node(prepared, nodes, k + 1, matched | 1 << k, row, rows),
         Some((pattern, patterns)) => {
             let relation = prepared.entries.get(place_of(pattern.pattern));
-            if with_pairs(prepared, relation, patterns, nodes, k, matched, entry, row, rows)? {
+            if with_pairs(
+                prepared, relation, patterns, nodes, k, matched, entry, row, rows,
+            )? {
                 Ok(())
             } else {
                 dead_end(prepared, nodes, k, matched, entry, rows)
@@ -172,7 +174,9 @@ fn with_pairs<'s, 'a>(
     let mut pairs = agreeing_with(prepared, relation, row);
     let mut any = false;
     while let Some(pair) = pairs.next() {
-        if with_pair(prepared, relation, pair, patterns, nodes, k, matched, entry, row, rows)? {
+        if with_pair(
+            prepared, relation, pair, patterns, nodes, k, matched, entry, row, rows,
+        )? {
             any = true;
         }
     }

@@ -1,6 +1,6 @@
 -- Carries proofs only: what a pair binds in a row of cells. A cell is 0 where its variable is unbound, and else v + 1 for
 -- the value v.
-use Rattle.std.specs.Prelude.{◌≡◌, ℕ, ◌+◌, ◌<◌, ◌==◌, Bool, if◌then◌else◌, List, [], Contains, Option, Some, None, slice_get, slice_index, slice_set, length, All}
+use Rattle.std.specs.Prelude.{ℕ, ◌+◌, ◌<◌, ◌==◌, if◌then◌else◌, List, [], Contains, Option, Some, None, slice_get, slice_index, slice_set}
 use Rattle.std.specs.List.{filter_map}
 use Rattle.alg_model.specs.declared.pattern.TriplePat.{TriplePat}
 use Rattle.alg_model.specs.Pattern.{triple_vars}

@@ -1,7 +1,6 @@
 -- Carries proofs only: which pairs a cursor has still to give, and what a row asks of them.
 use Rattle.std.specs.Prelude.{◌≡◌, ◌≢◌, ℕ, ◌==◌, ◌&&◌, Bool, true, false, filter, List, [], ◌∷◌, Option, Some, None}
 use Rattle.pattern_rel.specs.declared.bound.Bound.{Bound}
-use Rattle.tree_relations.specs.declared.prepared.Entry.{Entry}
 use Rattle.tree_relations.specs.declared.prepared.PlaceKind.{PlaceKind}
 use Rattle.tree_relations.specs.declared.prepared.Prepared.{Prepared}
 use Rattle.tree_relations.specs.declared.prepared.SidePlace.{SidePlace}

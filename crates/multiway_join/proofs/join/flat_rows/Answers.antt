@@ -1,7 +1,6 @@
-use Rattle.std.proofs.Common.{◌≡◌, ◌∙◌, ◌<◌, ◌≤◌, List, [], length, map, All, sym, ap, subst, arith}
+use Rattle.std.proofs.Common.{List, [], length, map, All, sym, ap, subst, arith}
 use Rattle.std.proofs.lemmas.List.{length-map}
 use Rattle.alg_model.specs.Limits.{max_variables}
-use Rattle.pattern_tree.specs.Tree.{TreeNode}
 use Rattle.pattern_tree.proofs.TreeSizes.{few_nodes}
 use Rattle.multiway_join.specs.declared.order.JoinNode.{JoinNode}
 use Rattle.multiway_join.specs.Joined.{count_left}

@@ -1,4 +1,4 @@
-use Rattle.std.proofs.Common.{◌≡◌, ◌≤◌, ℕ, List, take, replicate, map, All, refl, sym, subst}
+use Rattle.std.proofs.Common.{map, All, refl, sym, subst}
 use Rattle.multiway_join.specs.steps.Search.{as_node, CanJoinNode}
 use Rattle.multiway_join.proofs.Searching.{first_node, rest_nodes}
 use Rattle.multiway_join.proofs.Starting.{take_zeros}

@@ -1,5 +1,4 @@
-use Rattle.std.proofs.Common.{◌≡◌, ℕ, ◌+◌, ◌*◌, length, map, Contains}
-use Rattle.std.specs.List.{filter_map}
+use Rattle.std.proofs.Common.{◌≡◌, ◌+◌, ◌*◌, length, map}
 use Rattle.pattern_rel.specs.Left.{pairs_left}
 use Rattle.multiway_join.specs.steps.Binding.{bind_pair}
 use Rattle.multiway_join.specs.steps.Cursor.{coming}
