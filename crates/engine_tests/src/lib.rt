@@ -1,0 +1,6 @@
+//! Tests of the engine's steps over small graphs: how many pairs each relation has before and after pruning, how many flat
+//! rows are listed, and how many of them stay.
+#![tactic(auto)]
+
+#[cfg(test)]
+mod counts;
