@@ -1,3 +1,4 @@
+pub mod Lengths
 pub mod NamedBest
 pub mod NamedCells
 pub mod NamedConsistent
@@ -5,3 +6,4 @@ pub mod NamedFlatRows
 pub mod NamedMatches
 pub mod NamedTree
 pub mod Once
+pub mod Reports

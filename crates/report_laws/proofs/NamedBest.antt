@@ -1,5 +1,5 @@
 -- The best of rows of names, named, are the best of the rows that they name.
-use Rattle.std.proofs.Common.{◌≡◌, ◌≢◌, ℕ, List, map, AllPairs, Contains, sym, subst}
+use Rattle.std.proofs.Common.{ℕ, List, map, Contains, sym, subst}
 use Rattle.alg_model.specs.Row.{Row, Extends, BindsMore}
 use Rattle.naming_laws.specs.Naming.{named_row}
 use Rattle.pattern_tree.specs.BestRows.{IsExtended, AreBest}

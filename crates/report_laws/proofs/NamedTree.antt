@@ -1,5 +1,5 @@
 -- The flat rows of a tree in join order, over names and over what the names name.
-use Rattle.std.proofs.Common.{◌≡◌, ℕ, List, map, get_or, Contains, Some, refl, sym, ◌∙◌, ap, subst}
+use Rattle.std.proofs.Common.{◌≡◌, ℕ, List, map, Some, sym, ◌∙◌, ap, subst}
 use Rattle.std.specs.Prelude.{slice_get}
 use Rattle.std.proofs.lemmas.Option.{slice_get-get_or}
 use Rattle.alg_model.specs.declared.pattern.TriplePat.{TriplePat}
@@ -8,12 +8,11 @@ use Rattle.alg_model.specs.Row.{Row}
 use Rattle.alg_model.specs.Solution.{TellsValues}
 use Rattle.multiway_join.specs.FlatRows.{flat_rows_of}
 use Rattle.multiway_join.specs.JoinOrder.{IsJoinOrder}
-use Rattle.multiway_join.proofs.Same.{AreAlike, order_alike, stands_alike}
+use Rattle.multiway_join.proofs.Same.{order_alike, stands_alike}
 use Rattle.naming_laws.specs.Naming.{IsNaming, TellsApart, named_row, named_family}
 use Rattle.naming_laws.proofs.Names.{IsTaken}
 use Rattle.pattern_tree.specs.BestRows.{AreBest}
 use Rattle.pattern_tree.specs.Solution.{Family}
-use Rattle.pattern_tree.specs.Standing.{StandsAt}
 use Rattle.pattern_tree.specs.Tree.{TreeNode}
 use Rattle.report_laws.proofs.NamedBest.{best_named}
 use Rattle.report_laws.proofs.NamedCells.{TellsNames}
