@@ -1,3 +1,4 @@
+pub mod Examples
 pub mod Lengths
 pub mod NamedBest
 pub mod NamedCells
