@@ -14,7 +14,7 @@ BindsOnly {W} Takes row = (var : ℕ) (name : W) → binding row var ≡ Some na
 abbrev pub TellsNames : {W V : Type 0} → (W → V) → (ℕ → W → Type 0) → Type 0
 TellsNames {W} value Takes = (var : ℕ) (v w : W) → Takes var v → Takes var w → value v ≡ value w → v ≡ w
 
-one_truth : (b c : Bool) → (IsTrue b → IsTrue c) → (IsTrue c → IsTrue b) → b ≡ c
+pub one_truth : (b c : Bool) → (IsTrue b → IsTrue c) → (IsTrue c → IsTrue b) → b ≡ c
 one_truth true true to from = refl
 one_truth true false to from = let is = to refl in absurd cc
 one_truth false true to from = let is = from refl in absurd cc

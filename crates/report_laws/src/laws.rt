@@ -40,7 +40,7 @@ pub fn named_rows_law<W, Y, V, X>()
 
 /// What the engine counts is the report of the pattern over the graph: the lengths of the lists that it prepares and of
 /// what pruning leaves of them, its flat rows in join order, and the best of these. Lengths by place are those of the
-/// triple patterns, whose numbers are their places in the text.
+/// triple patterns, whose numbers are their places in the text. A pattern has one report over a graph.
 pub fn report_law()
     ensures report { (graph : List Triple) (numbering : Numbering) (n : ℕ) (pattern : Algebra) (p pruned : Prepared) (triple : ℕ → ℕ × ℕ → NumberTriple) (ordered : List TreeNode) (simple : Bool) (before after : List ℕ) (rows best : List (Row ℕ)) →
         NumbersGraph graph numbering → ShowsMatches numbering.terms graph n (tree_of pattern) p triple → TellsShown numbering.terms (tree_of pattern) p triple →
@@ -51,4 +51,7 @@ pub fn report_law()
         IsReport n pattern graph simple before after (length rows) (length best) }
     ensures lengths { (n : ℕ) (pattern : Algebra) (lists : ℕ → List (ℕ × ℕ)) (lengths : List ℕ) → PatternKeepsLimits n pattern → length lengths ≡ length (triple_patterns pattern) →
         ((i : ℕ) → i < length lengths → slice_get lengths i ≡ Some (length (lists i))) → AreLengths pattern (λ part. lists (entry_of part)) lengths }
+    ensures one { (n : ℕ) (pattern : Algebra) (graph : List Triple) (simple simple' : Bool) (before before' after after' : List ℕ) (listed listed' kept kept' : ℕ) → PatternKeepsLimits n pattern →
+        IsReport n pattern graph simple before after listed kept → IsReport n pattern graph simple' before' after' listed' kept' →
+        (simple ≡ simple') × (before ≡ before') × (after ≡ after') × (listed ≡ listed') × (kept ≡ kept') }
 {}
