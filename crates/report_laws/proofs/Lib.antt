@@ -1,0 +1,13 @@
+pub mod Examples
+pub mod Lengths
+pub mod Listed
+pub mod NamedBest
+pub mod NamedCells
+pub mod NamedConsistent
+pub mod NamedFlatRows
+pub mod NamedMatches
+pub mod NamedTree
+pub mod Once
+pub mod OneReport
+pub mod Reports
+pub mod SameRows
