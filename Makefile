@@ -7,7 +7,7 @@
 .PHONY: example try gate runs bench random standards pages build
 
 INSTRUMENTS = hierarchy labels overview
-BENCHES = bench_rows bench_lanes bench_slices bench_relations bench_terms bench_reading bench_numbers bench_results bench_images bench_opening bench_best
+BENCHES = bench_rows bench_lanes bench_slices bench_relations bench_terms bench_reading bench_numbers bench_results bench_images bench_opening bench_best bench_engine
 
 example: build
 	./bitmat ask examples/people.nt examples/friends.rq tsv | diff examples/friends.tsv -
