@@ -13,6 +13,7 @@ pub const COUNTED: &str =
     "index ok: version 1, triples 2, shared 1, subjects 1, objects 1, predicates 1\n";
 
 /// A command, and the text that it prints where no call fails.
+#[derive(Clone, Copy, Drop)]
 pub struct Command {
     pub words: &'static [&'static str],
     pub text: &'static str,

@@ -22,8 +22,11 @@ impl Model for Quiet {
     ghost use Rattle.std.specs.Prelude.{◌≡◌, [], true};
     ghost use Rattle.bm_world.specs.World.{no_faults};
     ghost use Rattle.quiet_world.specs.Quiet.{QuietState};
+    ghost use Rattle.quiet_world.specs.QuietCode.{quiet_code};
 
     ghost Value = { QuietState };
+
+    ghost coded = { quiet_code };
 
     ghost view = { λ q. record { meanings = q.world.meanings; tells = q.tells } };
 
