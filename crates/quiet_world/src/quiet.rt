@@ -1,8 +1,8 @@
 //! A world in memory that counts no failure.
-ghost use Rattle.std.specs.Prelude.{◌≡◌, ◌<◌, None, Some, OnOk, OnErr, IfOk, length, true, false};
+ghost use Rattle.std.specs.Prelude.{◌≡◌, ◌<◌, ◌≤◌, Ok, OnOk, OnErr, IfOk, length, false};
 ghost use Rattle.std.specs.Option.{option_copied};
-ghost use Rattle.bm_world.specs.Meanings.{file_at};
-ghost use Rattle.bm_world.specs.World.{no_faults};
+ghost use Rattle.bm_world.specs.Meanings.{file_at, with_printed, with_complained};
+ghost use Rattle.bm_world.specs.World.{Step, HasCause, RisesOnErr, IsMissing, NothingIsOpen, IsBeingMade, NothingIsMade, Opens, Reads, Creates, Writes, Closes, AppendsFront, no_faults};
 ghost use Rattle.quiet_world.specs.Quiet.{told_by, quiet_at_first, with_quiet_file};
 
 use bm_world::{Failed, MemWorld, World};
@@ -86,7 +86,12 @@ impl World for Quiet {
 
     ghost faults = { λ q. no_faults };
 
-    fn open(&mut self, name: &str) -> Result<(), Failed> {
+    fn open(&mut self, name: &str) -> Result<(), Failed>
+        ensures step { Step (told_by self.old) (told_by self.new) (Opens name.now result) }
+        ensures cause { HasCause 0 0 (told_by self.old) (IsMissing name.now) result }
+        ensures tells_no_more { self.old.tells ≡ false → self.new ≡ self.old }
+        ensures answers_still { self.new.tells ≡ false → result ≡ Ok tt }
+    {
         if !self.tells {
             return Ok(());
         }
@@ -95,14 +100,26 @@ impl World for Quiet {
         if self.tells { opened } else { Ok(()) }
     }
 
-    fn read(&mut self, into: &mut [u8]) -> Result<usize, Failed> {
+    fn read(&mut self, into: &mut [u8]) -> Result<usize, Failed>
+        ensures step { Step (told_by self.old) (told_by self.new) (Reads into.new result) }
+        ensures within { IfOk result (λ count. count ≤ length into.old) }
+        ensures cause { HasCause 0 0 (told_by self.old) NothingIsOpen result }
+        ensures tells_on { self.new.tells ≡ self.old.tells }
+        ensures tells_no_more { self.old.tells ≡ false → self.new ≡ self.old }
+        ensures answers_still { self.new.tells ≡ false → result ≡ Ok 0 }
+    {
         if !self.tells {
             return Ok(0);
         }
         self.world.read(into)
     }
 
-    fn create(&mut self, name: &str) -> Result<(), Failed> {
+    fn create(&mut self, name: &str) -> Result<(), Failed>
+        ensures step { Step (told_by self.old) (told_by self.new) (Creates name.now result) }
+        ensures cause { HasCause 0 0 (told_by self.old) IsBeingMade result }
+        ensures tells_no_more { self.old.tells ≡ false → self.new ≡ self.old }
+        ensures answers_still { self.new.tells ≡ false → result ≡ Ok tt }
+    {
         if !self.tells {
             return Ok(());
         }
@@ -111,7 +128,14 @@ impl World for Quiet {
         if self.tells { created } else { Ok(()) }
     }
 
-    fn write(&mut self, piece: &[u8]) -> Result<usize, Failed> {
+    fn write(&mut self, piece: &[u8]) -> Result<usize, Failed>
+        ensures step { Step (told_by self.old) (told_by self.new) (Writes piece.now result) }
+        ensures within { IfOk result (λ count. count ≤ length piece.now) }
+        ensures some { 0 < length piece.now → IfOk result (λ count. 0 < count) }
+        ensures cause { HasCause 0 0 (told_by self.old) NothingIsMade result }
+        ensures tells_no_more { self.old.tells ≡ false → self.new ≡ self.old }
+        ensures answers_still { self.new.tells ≡ false → result ≡ Ok (length piece.now) }
+    {
         if !self.tells {
             return Ok(piece.len());
         }
@@ -120,14 +144,27 @@ impl World for Quiet {
         if self.tells { written } else { Ok(piece.len()) }
     }
 
-    fn close(&mut self) -> Result<(), Failed> {
+    fn close(&mut self) -> Result<(), Failed>
+        ensures step { Step (told_by self.old) (told_by self.new) (Closes result) }
+        ensures cause { HasCause 0 0 (told_by self.old) NothingIsMade result }
+        ensures tells_on { self.new.tells ≡ self.old.tells }
+        ensures tells_no_more { self.old.tells ≡ false → self.new ≡ self.old }
+        ensures answers_still { self.new.tells ≡ false → result ≡ Ok tt }
+    {
         if !self.tells {
             return Ok(());
         }
         self.world.close()
     }
 
-    fn print(&mut self, piece: &[u8]) -> Result<usize, Failed> {
+    fn print(&mut self, piece: &[u8]) -> Result<usize, Failed>
+        ensures step { Step (told_by self.old) (told_by self.new) (AppendsFront with_printed piece.now result) }
+        ensures within { IfOk result (λ count. count ≤ length piece.now) }
+        ensures some { 0 < length piece.now → IfOk result (λ count. 0 < count) }
+        ensures cause { RisesOnErr 0 0 result }
+        ensures tells_no_more { self.old.tells ≡ false → self.new ≡ self.old }
+        ensures answers_still { self.new.tells ≡ false → result ≡ Ok (length piece.now) }
+    {
         if !self.tells {
             return Ok(piece.len());
         }
@@ -136,7 +173,14 @@ impl World for Quiet {
         if self.tells { printed } else { Ok(piece.len()) }
     }
 
-    fn complain(&mut self, piece: &[u8]) -> Result<usize, Failed> {
+    fn complain(&mut self, piece: &[u8]) -> Result<usize, Failed>
+        ensures step { Step (told_by self.old) (told_by self.new) (AppendsFront with_complained piece.now result) }
+        ensures within { IfOk result (λ count. count ≤ length piece.now) }
+        ensures some { 0 < length piece.now → IfOk result (λ count. 0 < count) }
+        ensures cause { RisesOnErr 0 0 result }
+        ensures tells_no_more { self.old.tells ≡ false → self.new ≡ self.old }
+        ensures answers_still { self.new.tells ≡ false → result ≡ Ok (length piece.now) }
+    {
         if !self.tells {
             return Ok(piece.len());
         }
