@@ -76,7 +76,11 @@ fn fails(
     world.fail_at(*call, u64::from(k))?;
     let status = world.ask(alloc, command.words)?;
     let text = printed(command.text, *call, k, *wanted);
-    let faults = if *wanted == 0 { (0, 0, 0) } else { raised(*call) };
+    let faults = if *wanted == 0 {
+        (0, 0, 0)
+    } else {
+        raised(*call)
+    };
     ends(rt, &world, (status, *wanted), line.as_bytes(), text, faults);
     assert!(rt; world.file("i") == left);
     Ok(())

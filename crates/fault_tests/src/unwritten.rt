@@ -1,6 +1,6 @@
-//! A file that `load` did not write whole is refused by `check`.
+//! A file that `load` did not write whole is refused by `check`; and no call is made for an empty piece.
 use crate::checking::{before, ends, index_of_data, staged};
-use bm_world::WorldCall;
+use bm_world::{MemWorld, WorldCall, complain_all, print_all, write_all_of};
 use std::test::Fail;
 
 /// The part that is told of a front of an index, by how many bytes it has.
@@ -27,5 +27,23 @@ fn a_file_that_was_not_written_whole_is_refused(rt: HostRuntime) -> Result<(), F
         let line = part(front.len()).as_bytes();
         ends(&rt, &world, (status, 4), line, &[], (0, 0, 0));
     }
+    Ok(())
+}
+
+#[test]
+fn no_call_is_made_for_an_empty_piece(rt: HostRuntime) -> Result<(), Fail> {
+    let mut world = MemWorld::new(rt.alloc());
+    for call in [WorldCall::Print, WorldCall::Complain, WorldCall::Write] {
+        world.fail_at(call, 1)?;
+    }
+    assert!(rt; print_all(&mut world, b"").is_ok());
+    assert!(rt; complain_all(&mut world, b"").is_ok());
+    assert!(rt; write_all_of(&mut world, "f", b"").is_ok());
+    assert!(rt; world.file("f") == Some(b"".as_slice()));
+    assert!(rt; world.faults() == (0, 0, 0));
+    // The calls that are scheduled to fail are still to come.
+    assert!(rt; print_all(&mut world, b"x").is_err());
+    assert!(rt; complain_all(&mut world, b"x").is_err());
+    assert!(rt; write_all_of(&mut world, "f", b"x").is_err());
     Ok(())
 }
