@@ -3,8 +3,8 @@
 #
 #     bench/faults.sh PROGRAM
 #
-# A full disk (a small tmpfs, for root alone), a closed pipe, a directory in place of a file, a file without permission
-# (for others than root alone), and a file that shrinks while it is read. Status 1 where a case ends in another way than said.
+# A full disk (a small tmpfs, for root alone), a closed pipe, a directory in place of a file, a file without permission,
+# and a file that shrinks while it is read. Status 1 where a case ends in another way than said.
 set -u
 program=$(realpath "$1")
 folder=$(mktemp -d)
@@ -58,11 +58,13 @@ told 'a directory as the index' 6 'write fault'
 
 cp d locked; chmod 000 locked
 if [ "$(id -u)" = 0 ]; then
-    echo 'a file without permission: not tried, root may read all files'
+    # root may read all files: another user tries
+    chmod 755 .; cp "$program" program
+    setpriv --reuid=65534 --regid=65534 --clear-groups ./program ask locked q tsv > out 2> line; status=$?
 else
     "$program" ask locked q tsv > out 2> line; status=$?
-    told 'a file without permission' 5 'read fault: locked'
 fi
+told 'a file without permission' 5 'read fault: locked'
 
 # the file is cut while it is read: what has come stands, and the status is one of those that the data may have
 seq 2000000 | sed 's|.*|<urn:a&> <urn:p> <urn:b> .|' > large
