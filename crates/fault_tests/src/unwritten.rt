@@ -31,19 +31,26 @@ fn a_file_that_was_not_written_whole_is_refused(rt: HostRuntime) -> Result<(), F
 }
 
 #[test]
-fn no_call_is_made_for_an_empty_piece(rt: HostRuntime) -> Result<(), Fail> {
+fn no_call_is_made_for_an_empty_text(rt: HostRuntime) -> Result<(), Fail> {
     let mut world = MemWorld::new(rt.alloc());
-    for call in [WorldCall::Print, WorldCall::Complain, WorldCall::Write] {
-        world.fail_at(call, 1)?;
-    }
+    world.fail_at(WorldCall::Print, 1)?;
+    world.fail_at(WorldCall::Complain, 1)?;
     assert!(rt; print_all(&mut world, b"").is_ok());
     assert!(rt; complain_all(&mut world, b"").is_ok());
-    assert!(rt; write_all_of(&mut world, "f", b"").is_ok());
-    assert!(rt; world.file("f") == Some(b"".as_slice()));
     assert!(rt; world.faults() == (0, 0, 0));
     // The calls that are scheduled to fail are still to come.
     assert!(rt; print_all(&mut world, b"x").is_err());
     assert!(rt; complain_all(&mut world, b"x").is_err());
-    assert!(rt; write_all_of(&mut world, "f", b"x").is_err());
+    Ok(())
+}
+
+#[test]
+fn no_call_is_made_for_an_empty_file(rt: HostRuntime) -> Result<(), Fail> {
+    let mut world = MemWorld::new(rt.alloc());
+    world.fail_at(WorldCall::Write, 1)?;
+    assert!(rt; write_all_of(&mut world, "f", b"").is_ok());
+    assert!(rt; world.file("f") == Some(b"".as_slice()));
+    world.create("g")?;
+    assert!(rt; world.write(b"x").is_err());
     Ok(())
 }
