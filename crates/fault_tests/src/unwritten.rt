@@ -1,6 +1,6 @@
 //! A file that `load` did not write whole is refused by `check`; and no call is made for an empty piece.
 use crate::checking::{before, ends, index_of_data, staged};
-use bm_world::{MemWorld, WorldCall, complain_all, print_all, write_all_of};
+use bm_world::{MemWorld, World, WorldCall, complain_all, print_all, write_all_of};
 use std::test::Fail;
 
 /// The part that is told of a front of an index, by how many bytes it has.
