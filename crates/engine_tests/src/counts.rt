@@ -72,7 +72,7 @@ const LEFT: [(&str, &str, &str); 9] = [
 ];
 
 /// The image of some data.
-fn image_of(alloc: Global, data: &str) -> Result<Vec<u8>, Fail> {
+pub(crate) fn image_of(alloc: Global, data: &str) -> Result<Vec<u8>, Fail> {
     let mut builder = Builder::new(alloc, 1000);
     read_lines(alloc, data.as_bytes(), &mut builder).map_err(|_| "no data")?;
     let numbers = builder.finish().map_err(|_| "no numbers")?;
@@ -84,7 +84,7 @@ fn image_of(alloc: Global, data: &str) -> Result<Vec<u8>, Fail> {
 }
 
 /// How many pairs each relation has.
-fn counts_of(alloc: Global, prepared: &Prepared<'_>) -> Result<Vec<u32>, Fail>
+pub(crate) fn counts_of(alloc: Global, prepared: &Prepared<'_>) -> Result<Vec<u32>, Fail>
     requires { FitsTogether prepared.now }
 {
     let mut counts = Vec::new(alloc);
@@ -114,7 +114,7 @@ fn text(
 }
 
 /// The query of a text.
-fn query_of(alloc: Global, text: &str) -> Result<Query, Fail>
+pub(crate) fn query_of(alloc: Global, text: &str) -> Result<Query, Fail>
     ensures { IfOk result KeepsLimits }
 {
     match parse_query(alloc, text.as_bytes()) {

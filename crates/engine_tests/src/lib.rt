@@ -3,4 +3,6 @@
 #![tactic(auto)]
 
 #[cfg(test)]
+mod brute;
+#[cfg(test)]
 mod counts;
