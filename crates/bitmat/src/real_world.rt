@@ -118,8 +118,12 @@ impl World for RealWorld {
 fn a_file_is_written_and_read_again(rt: HostRuntime) -> Result<(), std::test::Fail> {
     let alloc = rt.alloc();
     let mut world = RealWorld::new(rt);
-    bm_world::write_all_of(&mut world, "written", b"abc").ok().ok_or("not written")?;
-    let bytes = bm_world::read_all(alloc, &mut world, "written", 3).ok().ok_or("not read")?;
+    bm_world::write_all_of(&mut world, "written", b"abc")
+        .ok()
+        .ok_or("not written")?;
+    let bytes = bm_world::read_all(alloc, &mut world, "written", 3)
+        .ok()
+        .ok_or("not read")?;
     assert!(world.rt; bytes.as_slice() == b"abc".as_slice());
     assert!(world.rt; world.faults.reads == 0 && world.faults.writes == 0);
     // Opening a missing file raises the count.
